@@ -1,0 +1,27 @@
+-- What a call that may be refused answers.
+use mathlib.Core.Path.{_≡_}
+use mathlib.Core.Bool.{Bool, true, false}
+use Prim.Native.Nat.{ℕ}
+use Rattle.std.specs.declared.result.Result.{Result}
+use Rattle.std.specs.declared.result.Result.the-variants.{Ok, Err}
+use Rattle.refusals.specs.Numbers.{number-of}
+use Rattle.refusals.specs.declared.refusal.Refusal.{Refusal}
+
+-- the call was refused, by the refusal of number n
+abbrev pub RefusedBy : {X : Type 0} → ℕ → Result X Refusal → Type 0
+RefusedBy n (Ok x) = ⊥
+RefusedBy n (Err e) = number-of e ≡ n
+
+-- the call was accepted, and P holds of what it gave
+abbrev pub Accepted : {X : Type 0} → (X → Type 0) → Result X Refusal → Type 0
+Accepted P (Ok x) = P x
+Accepted P (Err e) = ⊥
+
+-- where the test passes the call gives a value of which P holds; where it does not, it is refused by number n
+abbrev pub AnswersBy : {X : Type 0} → Result X Refusal → Bool → (X → Type 0) → ℕ → Type 0
+AnswersBy r true P n = Accepted P r
+AnswersBy r false P n = RefusedBy n r
+
+-- where the test passes the call answers v; where it does not, it is refused by number n
+abbrev pub Answers : {X : Type 0} → Result X Refusal → Bool → X → ℕ → Type 0
+Answers r ok v n = AnswersBy r ok (λ x. x ≡ v) n
