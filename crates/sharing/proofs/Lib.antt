@@ -1,0 +1,4 @@
+pub mod Handing
+pub mod Products
+pub mod Totals
+pub mod Turns

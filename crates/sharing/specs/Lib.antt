@@ -1,0 +1,5 @@
+pub mod Kinds
+pub mod Laws
+pub mod Limits
+pub mod Rows
+pub mod Sharing
