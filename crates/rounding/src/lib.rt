@@ -1,6 +1,7 @@
 // Rounding to the nearest whole number.
-ghost use Prim.Native.Nat.{_<_};
-ghost use lib.Dec.{ltb};
+ghost use mathlib.Core.Path.{_≡_};
+ghost use Prim.Native.Nat.{_+_, _≤_};
+ghost use lib.Dec.{leb, ltb};
 ghost use Rattle.refusals.specs.Answers.{Answers};
 ghost use Rattle.rounding.specs.Nearest.{nearest};
 use refusals::Refusal;
@@ -12,12 +13,18 @@ pub fn nearest_quotient(number: u64, by: u64) -> Result<u64, Refusal>
     if by == 0 {
         return Err(Refusal::BeyondLimits);
     }
-    let below = number / by;
-    let rest = number % by;
-    // A sum of twice the rest could pass the largest u64.
-    if rest >= by - rest {
-        Ok(below + 1)
+    let whole = number / by;
+    if half_or_more(number % by, by) {
+        Ok(whole + 1)
     } else {
-        Ok(below)
+        Ok(whole)
     }
+}
+
+// Whether a rest is half of the divisor and more, told without a sum that could pass the largest u64.
+fn half_or_more(rest: u64, by: u64) -> bool
+    requires { ⌜ rest ≤ by ⌝ }
+    ensures { λ r. ⌜ r ≡ leb by (rest + rest) ⌝ }
+{
+    rest >= by - rest
 }

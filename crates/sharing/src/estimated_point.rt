@@ -4,7 +4,7 @@ ghost use Rattle.sharing.specs.Limits.{largest-estimate};
 // One point that is estimated on a day: its estimate, and the figure that it is scaled to.
 #[derive(Clone, Copy, PartialEq, Eq, Debug)]
 pub struct EstimatedPoint {
-    pub(crate) estimate: u64,
-    pub(crate) figure: u64,
+    pub estimate: u64,
+    pub figure: u64,
     ghost light: { estimate ≤ largest-estimate },
 }

@@ -18,13 +18,6 @@ impl ReadingDay {
         }
         Ok(ReadingDay { weight, share: 0 })
     }
-
-    // The share that it has taken.
-    pub fn share(self) -> u64
-        ensures { λ r. ⌜ r ≡ self .share ⌝ }
-    {
-        self.share
-    }
 }
 
 pub impl Row for ReadingDay as ReadingDayRow {
@@ -61,13 +54,6 @@ impl EstimatedPoint {
             estimate,
             figure: 0,
         })
-    }
-
-    // The figure that it is scaled to.
-    pub fn figure(self) -> u64
-        ensures { λ r. ⌜ r ≡ self .figure ⌝ }
-    {
-        self.figure
     }
 }
 

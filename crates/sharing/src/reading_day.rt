@@ -4,7 +4,7 @@ ghost use Rattle.sharing.specs.Limits.{largest-day-weight};
 // One day that a reading covers: the day's weight, and its share of the metered energy.
 #[derive(Clone, Copy, PartialEq, Eq, Debug)]
 pub struct ReadingDay {
-    pub(crate) weight: u64,
-    pub(crate) share: u64,
+    pub weight: u64,
+    pub share: u64,
     ghost light: { weight ≤ largest-day-weight },
 }
