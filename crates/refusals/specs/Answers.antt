@@ -1,5 +1,5 @@
 -- What a call that may be refused answers.
-use mathlib.Core.Path.{_≡_}
+use mathlib.Core.Path.{_≡_, refl}
 use mathlib.Core.Bool.{Bool, true, false}
 use Prim.Native.Nat.{ℕ}
 use Rattle.std.specs.declared.result.Result.{Result}
@@ -36,3 +36,12 @@ answers-value n passes e = rw passes e
 
 pub answers-refusal : {X : Type 0} {ok : Bool} (v : X) (n : ℕ) (e : Refusal) → ok ≡ false → number-of e ≡ n → Answers (Err e) ok v n
 answers-refusal v n e fails same = rw fails same
+
+-- what an accepted and a refused answer say of the test
+pub accepted-since : {X : Type 0} (x : X) (ok : Bool) (P : X → Type 0) (n : ℕ) → AnswersBy (Ok x) ok P n → (ok ≡ true) × P x
+accepted-since x true P n h = (refl, h)
+accepted-since x false P n h = absurd h
+
+pub refused-since : {X : Type 0} (e : Refusal) (ok : Bool) (P : X → Type 0) (n : ℕ) → AnswersBy (Err e) ok P n → (ok ≡ false) × (number-of e ≡ n)
+refused-since e true P n h = absurd h
+refused-since e false P n h = (refl, h)
