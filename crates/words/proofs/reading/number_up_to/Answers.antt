@@ -17,7 +17,7 @@ returns-then-not-is-ascii-digit c =
 pub loop-byte-again : need.loop-byte-again
 loop-byte-again c =
     scanned-more _ (c .loop-byte-test .taken) (c .loop-byte .inv) (c .if-not-is-ascii-digit .ensures tt .cases)
-    (rw (c .from .ensures) at (c .min-number .ensures))
+    (omega (arith, c .from .ensures, c .min-number .ensures))
 
 pub returns-then-number-beyond : need.returns-then-number-beyond
 returns-then-number-beyond c =
