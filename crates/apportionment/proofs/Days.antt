@@ -79,6 +79,9 @@ too-heavy loads {i} {w} e in-loads w-is new =
     let not-all : Within loads → ⊥ = λ all. omega (arith, leb-false _ _ heavy, all-getD (λ load. load ≤ largest-load) loads i 0 in-loads all) in
     (⊎-elim (λ yes-all. absurd (not-all (decides-within loads .0 yes-all))) (λ none. none) (cases-bool (loads-within loads)), since .1)
 
+same-line : {l l′ w w′ r r′ t t′ : ℕ} → l ≡ l′ → w ≡ w′ → r ≡ r′ → t ≡ t′ → day-line l w r t ≡ day-line l′ w′ r′ t′
+same-line p q r s = cc
+
 -- the lines of the first i days are written, and run is the sum of their weights
 pub record Written (loads : List ℕ) (days : List ReadingDay) (i run : ℕ) (lines : List DayLine) : Type 0 where
   pub run-is : run ≡ running (weights-of days) i
@@ -106,10 +109,11 @@ module _ {loads : List ℕ} {days : List ReadingDay} {i run : ℕ} {lines : List
         total-within (λ (d : ReadingDay). d .weight) days largest-day-weight (λ d. d .light),
       )
 
-  pub written-more : {line : DayLine} → line ≡ day-line (getD loads i 0) (day .weight) (run + day .weight) (day .share) → Written loads days (i + 1) (run + day .weight) (lines ++ (line ∷ []))
-  written-more line-is = record {
+  pub written-more : (line : DayLine) → line .load ≡ getD loads i 0 → line .weight ≡ day .weight → line .running ≡ run + day .weight → line .share ≡ day .share → Written loads days (i + 1) (run + day .weight) (lines ++ (line ∷ []))
+  written-more line load-is weight-is running-is taken-is = record {
     run-is = run-next;
     lines-are =
+        let line-is : line ≡ day-line (getD loads i 0) (day .weight) (run + day .weight) (day .share) = same-line load-is weight-is running-is taken-is in
         let more = map-counting-more (line-of loads days) 0 i i (omega arith) in
         cc (before .lines-are, line-is, run-next, weight-read, share-read, more);
   }

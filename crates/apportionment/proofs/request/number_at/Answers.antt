@@ -1,4 +1,5 @@
 use mathlib.Core.Path.{refl}
+use native.Mathlib.Omega.{arith}
 use Rattle.std.specs.declared.result.Result.the-variants.{Ok, Err}
 use Rattle.apportionment.proofs.Requests.{reads-alike, text-at}
 use Rattle.apportionment.proofs.request.number_at.Needs as need
@@ -11,4 +12,4 @@ returns-in-Ok c =
 pub returns-in-Err : need.returns-in-Err
 returns-in-Err c =
     let text = text-at (c .args .words .now) (c .pre) (c .index-words-place .is) (c .as-str .ensures .value) in
-    (refl, reads-alike {m = c .args .limit} (Err (c .in-Err .why)) text refl (c .in-Err .ensures tt))
+    (omega arith, reads-alike {m = c .args .limit} (Err (c .in-Err .why)) text refl (c .in-Err .ensures tt))

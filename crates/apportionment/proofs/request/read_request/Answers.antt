@@ -7,10 +7,10 @@ use Rattle.apportionment.proofs.Requests.{load-limit, read-first, read-more, r
 use Rattle.apportionment.proofs.request.read_request.Needs as need
 
 pub returns-then-words-lt2 : need.returns-then-words-lt2
-returns-then-words-lt2 c = rw (length-map (c .args .words .now) string-bytes) (c .if-words-lt2 .taken)
+returns-then-words-lt2 c = omega (arith, length-map (c .args .words .now) string-bytes)
 
 pub returns-then-words : need.returns-then-words
-returns-then-words c = rw (length-map (c .args .words .now) string-bytes) (c .if-words .taken)
+returns-then-words c = omega (arith, length-map (c .args .words .now) string-bytes)
 
 pub returns-in-Break-energy : need.returns-in-Break-energy
 returns-in-Break-energy c =
