@@ -1,7 +1,6 @@
-use mathlib.Core.Path.{ap}
-use native.Mathlib.Bridge.{le-prop}
-use Rattle.sharing.specs.Kinds.{estimated-point}
+use native.Mathlib.Omega.{arith}
+use Rattle.sharing.proofs.SameRows.{same-point}
 use Rattle.sharing.proofs.kinds.EstimatedPointRow.take.Needs as need
 
 pub returns : need.returns
-returns c = ap (estimated-point _ _) (le-prop _ _)
+returns c = same-point _ _ (omega arith) (omega arith)

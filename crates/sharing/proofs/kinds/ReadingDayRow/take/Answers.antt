@@ -1,7 +1,6 @@
-use mathlib.Core.Path.{ap}
-use native.Mathlib.Bridge.{le-prop}
-use Rattle.sharing.specs.Kinds.{reading-day}
+use native.Mathlib.Omega.{arith}
+use Rattle.sharing.proofs.SameRows.{same-day}
 use Rattle.sharing.proofs.kinds.ReadingDayRow.take.Needs as need
 
 pub returns : need.returns
-returns c = ap (reading-day _ _) (le-prop _ _)
+returns c = same-day _ _ (omega arith) (omega arith)
