@@ -4,10 +4,10 @@ ghost use Rattle.estimators.specs.Limits.{count-within};
 ghost use Rattle.by_weather.specs.Factors.{factors-within, weather-figure};
 
 // The greatest base load, in kilojoules a day.
-pub(crate) const GREATEST_BASE_LOAD: u64 = 100_000_000;
+const GREATEST_BASE_LOAD: u64 = 100_000_000;
 
 // The greatest sensitivity, in kilojoules a degree day.
-pub(crate) const GREATEST_SENSITIVITY: u64 = 1_000_000;
+const GREATEST_SENSITIVITY: u64 = 1_000_000;
 
 // How a point's use depends on the weather.
 #[derive(Clone, Copy)]
@@ -19,6 +19,13 @@ pub struct Factors {
 }
 
 impl Factors {
+    // Whether both are within their limits.
+    pub(crate) fn is_within(self) -> bool
+        ensures { λ r. ⌜ r ≡ factors-within (self .«base_load») (self .sensitivity) ⌝ }
+    {
+        self.base_load <= GREATEST_BASE_LOAD && self.sensitivity <= GREATEST_SENSITIVITY
+    }
+
     // The figure under a degree-day count, in megajoules.
     pub(crate) fn figure(self, count: u32) -> u64
         requires { ⌜ T (factors-within (self .«base_load») (self .sensitivity)) ⌝ ∗ ⌜ T (count-within count) ⌝ }

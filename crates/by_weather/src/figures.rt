@@ -8,8 +8,6 @@ ghost use Rattle.by_weather.specs.Factors.{entry-within};
 ghost use Rattle.by_weather.specs.Figures.{figures, figures-under};
 use super::by_weather::ByWeather;
 use super::factors::Factors;
-use super::factors::GREATEST_BASE_LOAD;
-use super::factors::GREATEST_SENSITIVITY;
 use estimators::DAYS;
 use estimators::Estimator;
 use estimators::POINTS;
@@ -32,27 +30,16 @@ impl ByWeather {
     }
 
     // Enters the factors of a point. They replace those that it has.
-    pub fn enter_factors(
-        &mut self,
-        point: u32,
-        base_load: u64,
-        sensitivity: u64,
-    ) -> Result<(), Refusal>
-        ensures answer { λ r. ⌜ Answers r (entry-within point «base_load» sensitivity) tt 3 ⌝ }
-        ensures factors { λ _. ⌜ now (self .exit) .factors ≡ cond (entry-within point «base_load» sensitivity) (set (now (self .entry) .factors) (point - 1) (Option.Some (record { «base_load» = «base_load»; sensitivity = sensitivity }))) (now (self .entry) .factors) ⌝ }
+    pub fn enter_factors(&mut self, point: u32, factors: Factors) -> Result<(), Refusal>
+        ensures answer { λ r. ⌜ Answers r (entry-within point (factors .«base_load») (factors .sensitivity)) tt 3 ⌝ }
+        ensures factors { λ _. ⌜ now (self .exit) .factors ≡ cond (entry-within point (factors .«base_load») (factors .sensitivity)) (set (now (self .entry) .factors) (point - 1) (Option.Some factors)) (now (self .entry) .factors) ⌝ }
         ensures counts { λ _. ⌜ now (self .exit) .counts ≡ now (self .entry) .counts ⌝ }
-        ensures refused { λ _. ⌜ (entry-within point «base_load» sensitivity ≡ false → now (self .exit) ≡ now (self .entry)) ⌝ }
+        ensures refused { λ _. ⌜ (entry-within point (factors .«base_load») (factors .sensitivity) ≡ false → now (self .exit) ≡ now (self .entry)) ⌝ }
     {
-        if !point_within(point)
-            || base_load > GREATEST_BASE_LOAD
-            || sensitivity > GREATEST_SENSITIVITY
-        {
+        if !point_within(point) || !factors.is_within() {
             return Err(Refusal::BeyondLimits);
         }
-        self.factors[point as usize - 1] = Some(Factors {
-            base_load,
-            sensitivity,
-        });
+        self.factors[point as usize - 1] = Some(factors);
         Ok(())
     }
 }
