@@ -4,6 +4,7 @@ ghost use Prim.Native.Nat.{_-_};
 ghost use lib.ListN.{replicate, set};
 ghost use Rattle.std.specs.declared.option.Option.{Option};
 ghost use Rattle.refusals.specs.Answers.{Answers};
+ghost use Rattle.estimators.specs.Limits.{last-point, last-day};
 ghost use Rattle.by_weather.specs.Factors.{entry-within};
 ghost use Rattle.by_weather.specs.Figures.{figures, figures-under};
 use super::by_weather::ByWeather;
@@ -20,8 +21,8 @@ use refusals::Refusal;
 impl ByWeather {
     // No point has factors yet, and no day a count.
     pub fn new() -> ByWeather
-        ensures factors { λ r. ⌜ r .factors ≡ replicate 256 Option.None ⌝ }
-        ensures counts { λ r. ⌜ r .counts ≡ replicate 400 Option.None ⌝ }
+        ensures factors { λ r. ⌜ r .factors ≡ replicate last-point Option.None ⌝ }
+        ensures counts { λ r. ⌜ r .counts ≡ replicate last-day Option.None ⌝ }
     {
         ByWeather {
             factors: [None; POINTS as usize],

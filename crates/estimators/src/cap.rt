@@ -3,6 +3,7 @@ ghost use mathlib.Core.Bool.{cond};
 ghost use lib.ListN.{replicate};
 ghost use Rattle.std.specs.declared.option.Option.{Option};
 ghost use Rattle.refusals.specs.Answers.{Answers};
+ghost use Rattle.estimators.specs.Limits.{last-point};
 ghost use Rattle.estimators.specs.Caps.{flow-of, at-most, capped, flow-within, with-flow};
 use super::estimator::Estimator;
 use super::estimator::Weather;
@@ -22,7 +23,7 @@ impl<E> Cap<E> {
     // A cap with no flow entered yet.
     pub fn over(below: E) -> Cap<E>
         ensures below { λ r. ⌜ r .below ≡ below ⌝ }
-        ensures flows { λ r. ⌜ r .flows ≡ replicate 256 Option.None ⌝ }
+        ensures flows { λ r. ⌜ r .flows ≡ replicate last-point Option.None ⌝ }
     {
         Cap {
             below,

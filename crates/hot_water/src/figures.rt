@@ -6,6 +6,7 @@ ghost use lib.ListN.{replicate, set};
 ghost use Rattle.std.specs.declared.option.Option.{Option};
 ghost use Rattle.refusals.specs.Answers.{Answers, AnswersBy};
 ghost use Rattle.calendar.specs.Digits.{is-date, day-number-of};
+ghost use Rattle.estimators.specs.Limits.{last-point};
 ghost use Rattle.hot_water.specs.Usage.{entry-within};
 ghost use Rattle.hot_water.specs.Figures.{month-numbered, month-on, figures, figures-under};
 use super::hot_water::HotWater;
@@ -33,7 +34,7 @@ fn month_numbered(number: u32) -> Option<u32>
 impl HotWater {
     // No point has hot water yet. Day place 1 is the first date, given by its eight digits.
     pub fn new(first_date: u32) -> Result<HotWater, Refusal>
-        ensures { λ r. ⌜ AnswersBy r (is-date «first_date») (λ h. (h .first ≡ day-number-of «first_date») × (h .usages ≡ replicate 256 Option.None)) 4 ⌝ }
+        ensures { λ r. ⌜ AnswersBy r (is-date «first_date») (λ h. (h .first ≡ day-number-of «first_date») × (h .usages ≡ replicate last-point Option.None)) 4 ⌝ }
     {
         let first = day_number_of(first_date)?;
         Ok(HotWater {
