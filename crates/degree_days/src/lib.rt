@@ -4,4 +4,6 @@ mod season;
 mod terms;
 
 pub use observations::Observations;
+pub use observations::temperature_within;
+pub use observations::wind_within;
 pub use terms::Terms;

@@ -66,14 +66,14 @@ impl Observations {
 }
 
 // Whether a temperature is within its limits.
-fn temperature_within(temperature: i32) -> bool
+pub fn temperature_within(temperature: i32) -> bool
     ensures { λ r. ⌜ r ≡ temperature-within temperature ⌝ }
 {
     COLDEST <= temperature && temperature <= HOTTEST
 }
 
 // Whether a wind is within its limits.
-fn wind_within(wind: u32) -> bool
+pub fn wind_within(wind: u32) -> bool
     ensures { λ r. ⌜ r ≡ wind-within wind ⌝ }
 {
     wind <= STRONGEST_WIND

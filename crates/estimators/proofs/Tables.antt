@@ -6,7 +6,7 @@ use lib.Dec.{T}
 use lib.ListN.{getD, set}
 use Rattle.std.specs.shelf.Lawful.{all-pass}
 
-both : (a b : Bool) → T a → T b → T (a && b)
+pub both : (a b : Bool) → T a → T b → T (a && b)
 both true b ta tb = tb
 both false b ta tb = ta
 
