@@ -5,10 +5,14 @@ use Prim.Native.Nat.{ℕ, zero, suc, _+_, _≤_, _<_}
 use native.Mathlib.Omega.{arith}
 use lib.Dec.{T, ltb}
 use Rattle.std.proofs.shelf.Tests.{cond-both, ltb-true, ltb-false}
+use Rattle.std.specs.declared.result.Result.{Result}
+use Rattle.refusals.specs.Answers.{Answers, AnswersBy}
+use Rattle.refusals.specs.declared.refusal.Refusal.{Refusal}
 use Rattle.calendar.specs.Gregorian.{leap, month-lengths, month-length, exists, days-before-month, days-before-year, day-number, days-in-all}
 use Rattle.calendar.specs.Digits.{is-date, day-number-of, date-after, date-numbered, digits, Numbered}
 use Rattle.calendar.specs.Dates.{digits-of, number-of}
 use Rattle.calendar.specs.declared.date.Date.{Date}
+use Rattle.calendar.proofs.Answered.{weakened}
 use Rattle.calendar.proofs.Days.{dated, exists-from}
 use Rattle.calendar.proofs.Months.{month-length-at-least, days-before-next-month, days-before-january, december-ends}
 use Rattle.calendar.proofs.Order.{same-day-number, day-number-below}
@@ -80,3 +84,7 @@ date-numbered-back n real =
 -- no other date has that number
 pub date-numbered-only : (n k : ℕ) → Numbered n k → n ≡ date-numbered k
 date-numbered-only n k here = sym (date-numbered-back n (here .0)) ∙ ap date-numbered (here .1)
+
+-- so a call that answers with a date of that number answers with that one
+pub answers-date-numbered : (r : Result ℕ Refusal) (k : ℕ) → AnswersBy r (ltb k days-in-all) (λ n. Numbered n k) 4 → Answers r (ltb k days-in-all) (date-numbered k) 4
+answers-date-numbered r k = weakened r (ltb k days-in-all) (λ n. Numbered n k) (λ n. n ≡ date-numbered k) 4 (λ n. date-numbered-only n k)

@@ -19,6 +19,7 @@ pub record InCalendar (y m d : ℕ) : Type 0 where
   pub day-high : d ≤ month-length y m
   pub day-short : d ≤ 31
 
+-- a test that passes, as a type and as an equation
 pub true-from-T : (b : Bool) → T b → b ≡ true
 true-from-T true t = refl
 true-from-T false t = absurd t
