@@ -2,8 +2,8 @@
 use Prim.Native.Nat.{ℕ}
 use Rattle.std.specs.declared.option.Option.{Option}
 use Rattle.std.specs.declared.option.Option.the-variants.{Some, None}
-use Rattle.weather_day.specs.declared.half.Half.{Half}
-use Rattle.weather_day.specs.declared.half.Half.the-variants.{First, Second}
+use Rattle.weather_day.specs.declared.answer.Half.{Half}
+use Rattle.weather_day.specs.declared.answer.Half.the-variants.{First, Second}
 
 -- the first where it has a figure, else the second where it has one
 abbrev pub answering : Option ℕ → Option ℕ → Option Half

@@ -23,3 +23,10 @@ first-fault date temperatures winds sunshine =
     (orOther (mapped Temperature (first-not temperature-within temperatures))
     (orOther (mapped Wind (first-not wind-within winds)) (cond (sunshine-within sunshine) None (Some Sunshine))))
     (Some Date)
+
+-- the place of a word, counted from 0: the date, eight temperatures, sixteen winds, sunshine
+abbrev pub place-of-word : Word → ℕ
+place-of-word Date = 0
+place-of-word (Temperature n) = n
+place-of-word (Wind n) = 8 + n
+place-of-word Sunshine = 25

@@ -1,3 +1,5 @@
+ghost use mathlib.Core.Path.{_≡_};
+ghost use Rattle.weather_day.specs.Words.{place-of-word};
 use std::fmt;
 
 // A word that tells a day's weather, the temperatures and the winds by their place from 1.
@@ -7,6 +9,20 @@ pub enum Word {
     Temperature(u32),
     Wind(u32),
     Sunshine,
+}
+
+impl Word {
+    // Its place among the words of a day, counted from 0 for the date.
+    pub fn place(self) -> usize
+        ensures { λ r. ⌜ r ≡ place-of-word self ⌝ }
+    {
+        match self {
+            Word::Date => 0,
+            Word::Temperature(place) => place as usize,
+            Word::Wind(place) => 8 + place as usize,
+            Word::Sunshine => 25,
+        }
+    }
 }
 
 // The word and its limits.
