@@ -1,0 +1,3 @@
+pub mod Words
+pub mod Reckoning
+pub mod Halves
