@@ -1,4 +1,4 @@
-// The estimators at the edges of their limits, alone and in piles.
+// The estimators at the edges of their limits, alone and in layers.
 #[cfg(test)]
 mod asked;
 #[cfg(test)]
@@ -6,4 +6,4 @@ mod by_weather_edges;
 #[cfg(test)]
 mod hot_water_edges;
 #[cfg(test)]
-mod piles;
+mod layers;

@@ -117,9 +117,9 @@ fn a_cap() -> Result<(), Fail> {
     )
 }
 
-// Weather goes down to every estimator of a deep pile.
+// Weather goes down to every estimator of many layers.
 #[test]
-fn a_pile_of_piles() -> Result<(), Fail> {
+fn layers_of_layers() -> Result<(), Fail> {
     let mut upper = Cap::over(pair()?);
     accepted(upper.enter_flow(1, 40))?;
     let mut last = ByWeather::new();
