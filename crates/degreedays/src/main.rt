@@ -48,7 +48,7 @@ const USAGE: Usage = Usage {
 const FLOW: u64 = 40;
 
 // A weather estimate that falls back on hot water, with a cap over both.
-type Pile = Cap<FallBack<ByWeather, HotWater>>;
+type Sampled = Cap<FallBack<ByWeather, HotWater>>;
 
 fn main(rt: LibcRuntime) -> Result<(), AnyError> {
     let words: Vec<String> = env::args(&rt)?.skip(1).collect(rt.alloc())?;
@@ -158,34 +158,34 @@ fn show_count(rt: &LibcRuntime, terms: &Terms, count: u32) -> io::Result<()> {
 
 // What the sample points are given before and after the count is entered.
 fn show_samples(rt: &LibcRuntime, date: u32, count: u32) -> Result<(), AnyError> {
-    let Ok(mut pile) = sample_pile(date) else {
+    let Ok(mut estimator) = sample_estimator(date) else {
         return Err("no sample points".into());
     };
     let before = [
-        Answer::of(&pile, 1, 1),
-        Answer::of(&pile, 2, 1),
-        Answer::of(&pile, 3, 1),
+        Answer::of(&estimator, 1, 1),
+        Answer::of(&estimator, 2, 1),
+        Answer::of(&estimator, 3, 1),
     ];
-    if pile.enter(1, count).is_err() {
+    if estimator.enter(1, count).is_err() {
         return Err("no such count".into());
     }
     for point in 1..4 {
         let old = AnswerShown(before[point as usize - 1]);
-        let new = AnswerShown(Answer::of(&pile, point, 1));
+        let new = AnswerShown(Answer::of(&estimator, point, 1));
         println!(rt, "point {point}: {old} before, {new} after")?;
     }
     Ok(())
 }
 
 // Point 1 has factors, point 2 factors, hot water and a greatest daily flow, point 3 hot water.
-fn sample_pile(date: u32) -> Result<Pile, Refusal> {
+fn sample_estimator(date: u32) -> Result<Sampled, Refusal> {
     let mut second = HotWater::new(date)?;
     second.enter_usage(2, USAGE)?;
     second.enter_usage(3, USAGE)?;
     let mut first = ByWeather::new();
     first.enter_factors(1, FACTORS)?;
     first.enter_factors(2, FACTORS)?;
-    let mut pile = Cap::over(FallBack { first, second });
-    pile.enter_flow(2, FLOW)?;
-    Ok(pile)
+    let mut estimator = Cap::over(FallBack { first, second });
+    estimator.enter_flow(2, FLOW)?;
+    Ok(estimator)
 }
