@@ -4,4 +4,13 @@ use Rattle.worked_figures.proofs.worked_figures_hold.Needs as need
 
 pub returns : need.returns
 unfolding part share-at shares
-returns c = record { load = refl; halves-up = refl; spread = refl; one = refl; scaled = refl }
+returns c = record {
+  load = refl;
+  halves-up = refl;
+  spread = refl;
+  one = refl;
+  scaled = refl;
+  degree-day-count = refl;
+  by-weather = refl;
+  hot-water = refl;
+}
