@@ -1,0 +1,4 @@
+pub mod Balance
+pub mod Days
+pub mod Locality
+pub mod Orders
