@@ -1,3 +1,5 @@
-pub mod Over
-pub mod Day
 pub mod Balanced
+pub mod Day
+pub mod Local
+pub mod Ordered
+pub mod Over

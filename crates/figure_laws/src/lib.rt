@@ -1,5 +1,7 @@
 // The laws of the daily figures, proved of the definitions that a book's promises cite.
-ghost use Rattle.figure_laws.specs.Balance.{ScalingOnlyLowers, EachDayBalances, SuppliedStands};
+ghost use Rattle.figure_laws.specs.Balance.{EachDayBalances, ScalingOnlyLowers, SuppliedStands};
+ghost use Rattle.figure_laws.specs.Locality.{CountsMoveEstimates, EnrolmentsMoveLaterDays, LoadsMoveJoinedDays, ReadingsMoveCoveredDays};
+ghost use Rattle.figure_laws.specs.Orders.{LatestEntriesDecide};
 
 // A scaled estimate never exceeds its estimate.
 pub fn scaling_only_lowers()
@@ -14,4 +16,29 @@ pub fn each_day_balances()
 // A covered day shows its reading's share, whatever the estimates.
 pub fn supplied_stands()
     ensures { λ _. ⌜ SuppliedStands ⌝ }
+{}
+
+// A gate day or an interval energy moves only its day and days joined to it.
+pub fn loads_move_joined_days()
+    ensures { λ _. ⌜ LoadsMoveJoinedDays ⌝ }
+{}
+
+// A degree-day count moves only estimated points of its day.
+pub fn counts_move_estimates()
+    ensures { λ _. ⌜ CountsMoveEstimates ⌝ }
+{}
+
+// A reading moves only days that it covers, and there its point and estimated points.
+pub fn readings_move_covered_days()
+    ensures { λ _. ⌜ ReadingsMoveCoveredDays ⌝ }
+{}
+
+// An enrolment moves only days from its start on.
+pub fn enrolments_move_later_days()
+    ensures { λ _. ⌜ EnrolmentsMoveLaterDays ⌝ }
+{}
+
+// The latest entries and the accepted readings in their order decide every day.
+pub fn latest_entries_decide()
+    ensures { λ _. ⌜ LatestEntriesDecide ⌝ }
 {}
