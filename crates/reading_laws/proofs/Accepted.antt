@@ -10,7 +10,7 @@ use Rattle.std.specs.declared.option.Option.{Option}
 use Rattle.std.specs.declared.option.Option.the-variants.{Some, None}
 use Rattle.std.specs.shelf.Lists.{All, countBy}
 use Rattle.std.proofs.shelf.Tests.{true≢false, and-parts, ltb-true, ltb-false, not-false}
-use Rattle.histories.specs.Calls.{Condition, Lawful, after-all-marks, conditions, end-not-allowed, enrolled-already, entry-of, first-holding, of-reading, places-full, refusal, start-no-mark}
+use Rattle.histories.specs.Calls.{Condition, Lawful, after-all-marks, conditions, end-not-allowed, enrolled-already, entry-of, first-holding, of-reading, places-full, refusal, soft-over-firm, start-no-mark}
 use Rattle.histories.specs.History.{History, Setting, enrolment-of}
 use Rattle.histories.specs.Readings.{held-of, mark, replaces}
 use Rattle.histories.specs.declared.call.Call.{Call}
@@ -33,11 +33,12 @@ none-holds (c ∷ cs) e = let passed = passed-over (c .holds) (c .number) (first
 pub accepted : (s : Setting) (h : History) (c : Call) → refusal s h c ≡ None → All (λ x. x .holds ≡ false) (conditions s h c)
 accepted s h c e = none-holds (conditions s h c) e
 
--- a reading that was accepted starts at a mark, ends after its start, at a mark or later than all, and has a place
+-- a reading that was accepted starts at a mark, ends after its start, at a mark or later than all, does not replace firm readings if it is soft, and has a place
 pub record Fits (s : Setting) (h : History) (r : Reading) : Type 0 where
   pub start-mark : mark h (r .point) (r .start) ≡ true
   pub ahead : r .start < r .end
   pub end-mark : (mark h (r .point) (r .end) || after-all-marks h (r .point) (r .end)) ≡ true
+  pub over-firm : soft-over-firm h r ≡ false
   pub room : countBy (λ old. not (replaces r old)) (held-of h) + 1 ≤ s .places
 
 pub fits : (s : Setting) (h : History) (r : Reading) → Lawful s (ReadingTaken r ∷ h) → Fits s h r
@@ -47,12 +48,14 @@ fits s h r lawful =
     let none = accepted s h c (lawful .1 .1) in
     let nine : start-no-mark h r ≡ false = ap (of-reading (start-no-mark h)) (sym is-reading) ∙ none .1 .1 .1 .1 .1 .1 .0 in
     let ten : end-not-allowed h r ≡ false = ap (of-reading (end-not-allowed h)) (sym is-reading) ∙ none .1 .1 .1 .1 .1 .1 .1 .0 in
+    let twelve : soft-over-firm h r ≡ false = ap (of-reading (soft-over-firm h)) (sym is-reading) ∙ none .1 .1 .1 .1 .1 .1 .1 .1 .1 .0 in
     let thirteen : places-full s h r ≡ false = ap (of-reading (places-full s h)) (sym is-reading) ∙ none .1 .1 .1 .1 .1 .1 .1 .1 .1 .1 .0 in
     let ends = and-parts (ltb (r .start) (r .end)) (mark h (r .point) (r .end) || after-all-marks h (r .point) (r .end)) (not-false _ ten) in
     record {
       start-mark = not-false (mark h (r .point) (r .start)) nine;
       ahead = ltb-true (r .start) (r .end) (ends .0);
       end-mark = ends .1;
+      over-firm = twelve;
       room = ltb-false (s .places) (countBy (λ old. not (replaces r old)) (held-of h) + 1) thirteen;
     }
 

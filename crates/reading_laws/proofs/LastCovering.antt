@@ -1,17 +1,18 @@
 -- The last accepted reading that covers a day is the one held reading that does. Assumes nothing.
 use mathlib.Core.Bool.{Bool, true}
-use mathlib.Core.Path.{_≡_, refl, sym, _∙_}
+use mathlib.Core.Path.{_≡_, refl, ap, _∙_}
 use Prim.Native.Nat.{ℕ}
+use Rattle.std.specs.Options.{isSome}
 use Rattle.std.specs.declared.option.Option.{Option}
 use Rattle.std.specs.declared.option.Option.the-variants.{Some, None}
 use Rattle.histories.specs.Calls.{Lawful}
 use Rattle.histories.specs.History.{History, Setting, covering, covers}
-use Rattle.histories.specs.Readings.{held-of}
+use Rattle.histories.specs.Readings.{held-of, some-reading}
 use Rattle.histories.specs.declared.entry.Reading.{Reading}
 use Rattle.reading_laws.specs.Held.{Held, first-reading}
 use Rattle.reading_laws.specs.Laws.{LastCovering}
 use Rattle.reading_laws.proofs.Histories.{tiled}
-use Rattle.reading_laws.proofs.Members.{first-among, first-none}
+use Rattle.reading_laws.proofs.Members.{first-among, first-is-some, first-none}
 
 module _ (s : Setting) (h : History) (lawful : Lawful s h) where
   pub covering-held : (p d : ℕ) (r : Reading) → covering h p d ≡ Some r → Held h r × (covers r p d ≡ true)
@@ -35,5 +36,18 @@ module _ (s : Setting) (h : History) (lawful : Lawful s h) where
   pub covering-first : (p d : ℕ) → covering h p d ≡ first-reading (λ r. covers r p d) (held-of h)
   covering-first p d = first-covering p d (first-reading (λ r. covers r p d) (held-of h)) refl
 
+  pub covering-some : (p d : ℕ) → isSome (covering h p d) ≡ some-reading (λ r. covers r p d) (held-of h)
+  covering-some p d = ap isSome (covering-first p d) ∙ first-is-some (λ r. covers r p d) (held-of h)
+
+  -- a reading that is the last on one of its days is the last on all of them
+  pub covering-spans : (p d e : ℕ) (r : Reading) → covering h p d ≡ Some r → covers r p e ≡ true → covering h p e ≡ Some r
+  covering-spans p d e r last c = held-covering p e r (covering-held p d r last .0) c
+
   pub last-covering : LastCovering h
-  last-covering = record { is-held = covering-held; held-is-last = held-covering; first-held = covering-first }
+  last-covering = record {
+    is-held = covering-held;
+    held-is-last = held-covering;
+    first-held = covering-first;
+    some-held = covering-some;
+    on-all-its-days = covering-spans;
+  }

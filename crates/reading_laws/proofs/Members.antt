@@ -1,18 +1,24 @@
 -- Readings among others: tests, filters, and readings that lie apart. Assumes nothing.
 use mathlib.Core.Bool.{Bool, true, false, cond, not, _||_}
 use mathlib.Core.List.{List, [], _∷_}
-use mathlib.Core.Logic.{_⊎_, inl, inr}
+use mathlib.Core.Logic.{_⊎_, inl, inr, ⊎-elim}
 use mathlib.Core.Path.{_≡_, refl, sym, ap, _∙_}
+use Prim.Native.Nat.{ℕ, zero, suc, _+_, _≤_, _<_}
+use native.Mathlib.Nat.{le-of-suc-le-suc, not-suc-le-zero}
+use native.Mathlib.Omega.{arith}
+use lib.ListN.{getD, length}
 use Rattle.std.specs.Options.{isSome, valueOr}
 use Rattle.std.specs.declared.option.Option.{Option}
 use Rattle.std.specs.declared.option.Option.the-variants.{Some, None}
-use Rattle.std.specs.shelf.Lists.{All, kept-by}
+use Rattle.std.specs.shelf.Lists.{All, countBy, kept-by}
 use Rattle.std.proofs.shelf.Elements.{all-kept-by, all-weaker, kept-by-passes}
-use Rattle.std.proofs.shelf.Tests.{cond-true, false≢true, not-true, or-cases, or-left, or-right}
+use Rattle.std.proofs.shelf.Sums.{sumBy-cons}
+use Rattle.std.proofs.shelf.Tests.{cases-bool, cond-false, cond-true, false≢true, not-true, or-cases, or-left, or-right}
+use Rattle.histories.specs.History.{covers}
 use Rattle.histories.specs.Readings.{held, replaces, some-reading}
 use Rattle.histories.specs.declared.entry.Reading.{Reading}
 use Rattle.reading_laws.specs.Held.{Among, Apart, first-reading}
-use Rattle.reading_laws.proofs.Spans.{replaces-back}
+use Rattle.reading_laws.proofs.Spans.{replaces-back, shares-none}
 
 -- where some reading passes a test, one among them does
 pub some-among : (test : Reading → Bool) (rs : List Reading) → some-reading test rs ≡ true → (r : Reading) × Among r rs × (test r ≡ true)
@@ -108,3 +114,55 @@ first-some test (o ∷ os) r (inr later) t = some-either (test o) o (first-readi
 -- where none is first, none passes
 pub first-none : (test : Reading → Bool) (rs : List Reading) (r : Reading) → first-reading test rs ≡ None → Among r rs → test r ≡ true → ⊥
 first-none test rs r e a t = false≢true (ap isSome (sym e) ∙ first-some test rs r a t)
+
+some-is : (b : Bool) (o : Reading) (first : Option Reading) (rest : Bool) → isSome first ≡ rest → isSome (cond b (Some o) first) ≡ (b || rest)
+some-is true o first rest e = refl
+some-is false o first rest e = e
+
+-- there is a first one where some reading passes
+pub first-is-some : (test : Reading → Bool) (rs : List Reading) → isSome (first-reading test rs) ≡ some-reading test rs
+first-is-some test [] = refl
+first-is-some test (o ∷ os) = some-is (test o) o (first-reading test os) (some-reading test os) (first-is-some test os)
+
+-- the first one counts where it passes
+counted : (test : Reading → Bool) (o : Reading) (os : List Reading) → test o ≡ true → countBy test (o ∷ os) ≡ 1 + countBy test os
+counted test o os t = sumBy-cons (λ r. cond (test r) 1 0) o os ∙ ap (λ n. n + countBy test os) (cond-true (test o) 1 0 t)
+
+not-counted : (test : Reading → Bool) (o : Reading) (os : List Reading) → test o ≡ false → countBy test (o ∷ os) ≡ countBy test os
+not-counted test o os t = sumBy-cons (λ r. cond (test r) 1 0) o os ∙ ap (λ n. n + countBy test os) (cond-false (test o) 1 0 t) ∙ omega arith
+
+-- how many pass: none where none does, and one or more where one does
+pub count-none : (test : Reading → Bool) (rs : List Reading) → ((r : Reading) → Among r rs → test r ≡ false) → countBy test rs ≡ 0
+count-none test [] none = refl
+count-none test (o ∷ os) none = not-counted test o os (none o (inl refl)) ∙ count-none test os (λ r a. none r (inr a))
+
+pub count-some : (test : Reading → Bool) (rs : List Reading) (r : Reading) → Among r rs → test r ≡ true → 1 ≤ countBy test rs
+count-some test [] r a t = absurd a
+count-some test (o ∷ os) r (inl same) t = omega (arith, counted test o os (ap test same ∙ t))
+count-some test (o ∷ os) r (inr later) t =
+    let more = count-some test os r later t in
+    ⊎-elim (λ here. omega (arith, counted test o os here)) (λ here. omega (arith, not-counted test o os here)) (cases-bool (test o))
+
+-- of readings that lie apart at most one covers a day
+pub count-apart : (p d : ℕ) (rs : List Reading) → Apart rs → countBy (λ r. covers r p d) rs ≤ 1
+count-apart p d [] apart = omega arith
+count-apart p d (r ∷ rs) apart =
+    ⊎-elim
+    (λ c.
+    let others = count-none (λ o. covers o p d) rs (λ o a. shares-none r o p d c (all-among (λ x. replaces r x ≡ false) rs o (apart .0) a)) in
+    omega (arith, counted (λ o. covers o p d) r rs c, others))
+    (λ c. omega (arith, not-counted (λ o. covers o p d) r rs c, count-apart p d rs (apart .1)))
+    (cases-bool (covers r p d))
+
+-- the same by places of the list
+pub getD-among : (rs : List Reading) (i : ℕ) (d : Reading) → i < length rs → Among (getD rs i d) rs
+getD-among [] i d h = absurd (not-suc-le-zero h)
+getD-among (r ∷ rs) zero d h = inl refl
+getD-among (r ∷ rs) (suc i) d h = inr (getD-among rs i d (le-of-suc-le-suc h))
+
+pub among-getD : (r : Reading) (rs : List Reading) → Among r rs → (i : ℕ) × (i < length rs) × ((d : Reading) → getD rs i d ≡ r)
+among-getD r [] a = absurd a
+among-getD r (o ∷ os) (inl same) = (0, omega arith, λ d. same)
+among-getD r (o ∷ os) (inr later) =
+    let found = among-getD r os later in
+    (suc (found .0), omega (arith, found .1), found .2)

@@ -50,6 +50,14 @@ replaces-back a b e =
     let facts = replaces-facts b a t in
     both-ways (replaces a b) e (replaces-from a b (sym (facts .0)) (facts .2) (facts .1)))
 
+-- of two readings that share no day, the second covers none of the first's
+pub shares-none : (a b : Reading) (p d : ℕ) → covers a p d ≡ true → replaces a b ≡ false → covers b p d ≡ false
+shares-none a b p d c free =
+    not-so (covers b p d) (λ both.
+    let one = covers-facts a p d c in
+    let two = covers-facts b p d both in
+    both-ways (replaces a b) free (replaces-from a b (one .0 ∙ sym (two .0)) (omega (arith, one .1, two .2)) (omega (arith, one .2, two .1))))
+
 -- of two readings of a point that share no day, one ends where the other starts or before
 pub one-before : (a b : Reading) → a .point ≡ b .point → replaces a b ≡ false → (b .end ≤ a .start) ⊎ (a .end ≤ b .start)
 one-before a b same e = elim (cases-lt (a .start) (b .end)) [

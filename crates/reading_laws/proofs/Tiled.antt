@@ -19,7 +19,7 @@ use Rattle.histories.specs.declared.entry.Enrolment.{Enrolment}
 use Rattle.histories.specs.declared.entry.Reading.{Reading}
 use Rattle.reading_laws.specs.Held.{Among, Apart}
 use Rattle.reading_laws.proofs.Members.{among-kept, apart-kept, apart-two, kept-among}
-use Rattle.reading_laws.proofs.Spans.{begun-enrolled, begun-later, covers-facts, covers-from, not-so, one-before, replaces-facts, replaces-from, starts-begun, starts-enrolled, starts-first}
+use Rattle.reading_laws.proofs.Spans.{begun-enrolled, begun-later, covers-facts, covers-from, not-so, one-before, replaces-facts, shares-none, starts-begun, starts-enrolled, starts-first}
 
 -- a day is a mark of a point: its start day, or the end of a reading of it
 abbrev pub AtMark : (ℕ → Option Enrolment) → List Reading → ℕ → ℕ → Type 0
@@ -189,11 +189,7 @@ module _
 
   last-by : (p d : ℕ) (o : Reading) (b : Bool) → covers r p d ≡ b → Among o now-held → covers o p d ≡ true → orOther (cond b (Some r) None) (last p d) ≡ Some o
   last-by p d o true c (inl same) oc = ap Some same
-  last-by p d o true c (inr later) oc =
-      let was = kept o later in
-      let facts = covers-facts o p d oc in
-      let new = covers-facts r p d c in
-      absurd (both-ways (replaces r o) (was .1) (replaces-from r o (new .0 ∙ sym (facts .0)) (omega (arith, new .1, facts .2)) (omega (arith, new .2, facts .1))))
+  last-by p d o true c (inr later) oc = absurd (both-ways (covers o p d) (shares-none r o p d c (kept o later .1)) oc)
   last-by p d o false c (inl same) oc = absurd (both-ways (covers r p d) c (ap (λ x. covers x p d) same ∙ oc))
   last-by p d o false c (inr later) oc = t .held-last p d o (kept o later .0) oc
 
