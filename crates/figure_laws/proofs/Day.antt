@@ -17,7 +17,7 @@ use Rattle.std.proofs.shelf.Tests.{cases-lt, cond-false, cond-both}
 use Rattle.loads.specs.Loads as loads
 use Rattle.sharing.specs.Laws.{length-shares, share-of-nothing}
 use Rattle.sharing.specs.Sharing.{shares}
-use Rattle.histories.specs.Figures.{active, begun, estimate, estimate-counted, estimated, estimates, estimates-sum, exceeded, excess, figure, figures-sum, generated, generated-sum, load, missing, points-of, remainder, share-on, supplied, supplied-sum, weight, weights}
+use Rattle.histories.specs.Figures.{active, begun, belongs, estimate, estimate-counted, estimated, estimates, estimates-sum, exceeded, excess, figure, figures-sum, generated, generated-sum, load, missing, points-of, remainder, retailer-sum, share-on, supplied, supplied-sum, weight, weights}
 use Rattle.histories.specs.History.{History, Setting, count-of, covering, enrolment-of, gate-of, interval-of}
 use Rattle.histories.specs.declared.entry.Enrolment.{Enrolment}
 use Rattle.histories.specs.declared.entry.GateDay.{GateDay}
@@ -53,8 +53,12 @@ module _ (s : Setting) (h new : History) (d : ℕ) (same : SameParts s h new d) 
   pub missing-same : missing s new d ≡ missing s h d
   missing-same = λ i. countBy (λ p. same .estimated-same p i && not (isSome (same .estimate-same p i))) (points-of s)
 
-  pub same-day : SameDay s h new d
-  same-day = record {
+  -- the retailers' sums too where points have the same retailers
+  pub retailers-same : ((p : ℕ) → enrolment-of new p ≡ enrolment-of h p) → (k : ℕ) → retailer-sum s new k d ≡ retailer-sum s h k d
+  retailers-same enrolments k = λ i. sum (map (λ p. cond (belongs (enrolments p i) k) (figure-same p i) 0) (points-of s))
+
+  pub same-day : ((k : ℕ) → retailer-sum s new k d ≡ retailer-sum s h k d) → SameDay s h new d
+  same-day retailers = record {
     load-stands = same .loads-same;
     figures-stand = figure-same;
     supplied-stands = supplied-sum-same;
@@ -62,7 +66,12 @@ module _ (s : Setting) (h new : History) (d : ℕ) (same : SameParts s h new d) 
     remainder-stands = λ n i. n - figures-sum-same i;
     excess-stands = λ n i. supplied-sum-same i - n;
     missing-stands = missing-same;
+    retailers-stand = retailers;
   }
+
+-- a day whose points have the same retailers is told the same where it is made of the same
+pub same-day-enrolled : (s : Setting) (h new : History) (d : ℕ) → ((p : ℕ) → enrolment-of new p ≡ enrolment-of h p) → SameParts s h new d → SameDay s h new d
+same-day-enrolled s h new d enrolments same = same-day s h new d same (retailers-same s h new d same enrolments)
 
 -- A day's load and a reading's share.
 

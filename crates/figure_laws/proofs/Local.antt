@@ -19,7 +19,7 @@ use Rattle.histories.specs.declared.entry.GateDay.{GateDay}
 use Rattle.histories.specs.declared.entry.Reading.{Reading}
 use Rattle.figure_laws.specs.Days.{SameDay}
 use Rattle.figure_laws.specs.Locality.{Apart}
-use Rattle.figure_laws.proofs.Day.{SameParts, figure-supplied, load-same, same-day, share-same, supplied-from}
+use Rattle.figure_laws.proofs.Day.{SameParts, figure-supplied, load-same, same-day-enrolled, share-same, supplied-from}
 
 -- an entry that says nothing leaves the latest that is said
 pub silent : {X : Type 0} (says : Entry → Option X) (e : Entry) (h : History) → says e ≡ None → latest says (e ∷ h) ≡ latest says h
@@ -65,19 +65,19 @@ loads-move s h new g d elsewhere covering-same enrolment-same count-same other a
 
 pub gate-moves : (s : Setting) (h : History) (g d : ℕ) (energies : GateDay) → (d ≡ g → ⊥) → Apart h d g → SameDay s h (GateEntered g energies ∷ h) d
 gate-moves s h g d energies other apart =
-    same-day s h (GateEntered g energies ∷ h) d
+    same-day-enrolled s h (GateEntered g energies ∷ h) d (λ p. refl)
     (loads-move s h (GateEntered g energies ∷ h) g d (λ k. gate-elsewhere s h g k energies) (λ p. refl) (λ p. refl) refl other apart)
 
 pub interval-moves : (s : Setting) (h : History) (g d meter energy : ℕ) → (d ≡ g → ⊥) → Apart h d g → SameDay s h (IntervalEntered g meter energy ∷ h) d
 interval-moves s h g d meter energy other apart =
-    same-day s h (IntervalEntered g meter energy ∷ h) d
+    same-day-enrolled s h (IntervalEntered g meter energy ∷ h) d (λ p. refl)
     (loads-move s h (IntervalEntered g meter energy ∷ h) g d (λ k. interval-elsewhere s h g k meter energy) (λ p. refl) (λ p. refl) refl other apart)
 
 -- Degree-day counts.
 
 pub count-elsewhere : (s : Setting) (h : History) (g d count : ℕ) → (d ≡ g → ⊥) → SameDay s h (DegreeDaysEntered g count ∷ h) d
 count-elsewhere s h g d count other =
-    same-day s h (DegreeDaysEntered g count ∷ h) d
+    same-day-enrolled s h (DegreeDaysEntered g count ∷ h) d (λ p. refl)
     (record {
       loads-same = refl;
       supplied-same = λ p. refl;
@@ -107,7 +107,7 @@ covers-none r p d none =
 
 pub reading-elsewhere : (s : Setting) (h : History) (r : Reading) (d : ℕ) → covers r (r .point) d ≡ false → SameDay s h (ReadingTaken r ∷ h) d
 reading-elsewhere s h r d none =
-    same-day s h (ReadingTaken r ∷ h) d
+    same-day-enrolled s h (ReadingTaken r ∷ h) d (λ p. refl)
     (record {
       loads-same = refl;
       supplied-same = λ p i. mapped (share-on s h d) (covering-elsewhere h r p d (covers-none r p d none) i);
@@ -138,12 +138,11 @@ active-before h p q d e none before = ⊎-elim here elsewhere (cases-eq p q)
         ∙ lt-leb (e .start) d before
         ∙ sym (ap (λ o. begun o d) (ap (enrolment-of h) (sym same) ∙ none))
 
-pub enrolment-moves : (s : Setting) (h : History) (p d : ℕ) (e : Enrolment) → enrolment-of h p ≡ None → d < e .start → SameDay s h (Enrolled p e ∷ h) d
-enrolment-moves s h p d e none before =
-    same-day s h (Enrolled p e ∷ h) d
-    (record {
-      loads-same = refl;
-      supplied-same = λ q. refl;
-      estimated-same = λ q i. active-before h p q d e none before i && not (isSome (covering h q d));
-      estimate-same = λ q. refl;
-    })
+-- what a day's figures are made of does not change before it
+pub parts-before : (s : Setting) (h : History) (p d : ℕ) (e : Enrolment) → enrolment-of h p ≡ None → d < e .start → SameParts s h (Enrolled p e ∷ h) d
+parts-before s h p d e none before = record {
+  loads-same = refl;
+  supplied-same = λ q. refl;
+  estimated-same = λ q i. active-before h p q d e none before i && not (isSome (covering h q d));
+  estimate-same = λ q. refl;
+}

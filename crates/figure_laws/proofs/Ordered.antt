@@ -6,8 +6,7 @@ use Prim.Native.Nat.{ℕ}
 use Rattle.std.specs.Options.{isSome, orOther}
 use Rattle.std.specs.declared.option.Option.{Option}
 use Rattle.std.specs.declared.option.Option.the-variants.{Some, None}
-use Rattle.std.specs.shelf.Lists.{sum}
-use Rattle.histories.specs.Figures.{begun, belongs, points-of, retailer-sum, under-count}
+use Rattle.histories.specs.Figures.{begun, load, under-count}
 use Rattle.histories.specs.History.{History, Setting, covering, covers, reading-in}
 use Rattle.histories.specs.Readings.{accepted-readings}
 use Rattle.histories.specs.declared.entry.Entry.{Entry}
@@ -15,7 +14,7 @@ use Rattle.histories.specs.declared.entry.Entry.the-variants.{Enrolled, GateEnt
 use Rattle.histories.specs.declared.entry.Reading.{Reading}
 use Rattle.figure_laws.specs.Days.{SameDay}
 use Rattle.figure_laws.specs.Orders.{SameLatest, SameSheet}
-use Rattle.figure_laws.proofs.Day.{SameParts, load-same, same-day, share-same, supplied-from}
+use Rattle.figure_laws.proofs.Day.{SameParts, load-same, same-day-enrolled, share-same, supplied-from}
 
 -- the first of some readings that covers a point's day
 abbrev first-covering : List Reading → ℕ → ℕ → Option Reading
@@ -44,12 +43,8 @@ module _ (s : Setting) (h new : History) (latest-same : SameLatest h new) (cover
     estimate-same = λ p i. under-count s (latest-same .counts d i) p d;
   }
     where
-      loads : (k : ℕ) → Rattle.histories.specs.Figures.load s new k ≡ Rattle.histories.specs.Figures.load s h k
+      loads : (k : ℕ) → load s new k ≡ load s h k
       loads k = load-same s h new k (latest-same .gates k) (λ m. latest-same .intervals m k)
 
   pub same-sheet : SameSheet s h new
-  same-sheet = record {
-    days-stand = λ d. same-day s h new d (parts-same d);
-    retailers-stand = λ k d i.
-        sum (map (λ p. cond (belongs (latest-same .enrolments p i) k) (same-day s h new d (parts-same d) .figures-stand p i) 0) (points-of s));
-  }
+  same-sheet d = same-day-enrolled s h new d (latest-same .enrolments) (parts-same d)

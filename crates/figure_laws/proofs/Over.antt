@@ -1,9 +1,12 @@
 -- Sums and rows over a run of numbers, and values that are there or not.
 use mathlib.Core.Path.{_≡_, refl, sym, ap, ap₂, _∙_}
+use mathlib.Core.Bool.{cond}
 use mathlib.Core.List.{List, [], _∷_, map}
+use mathlib.Core.Logic.{⊎-elim}
 use Prim.Native.Nat.{ℕ, zero, suc, _+_, _-_, _<_, _≤_}
 use native.Mathlib.Numerals.{add-one}
 use native.Mathlib.Omega.{arith}
+use lib.Dec.{eqb}
 use lib.ListN.{getD, length}
 use Rattle.std.specs.Iters.{counting}
 use Rattle.std.specs.Options.{mapped}
@@ -13,6 +16,7 @@ use Rattle.std.specs.shelf.Lists.{sum}
 use Rattle.std.proofs.shelf.Counted.{getD-map-counting, length-map-counting}
 use Rattle.std.proofs.shelf.Lists.{ext-getD}
 use Rattle.std.proofs.shelf.Sums.{sumBy-cons}
+use Rattle.std.proofs.shelf.Tests.{cases-eq, cond-false, cond-true, eq-eqb, ne-eqb}
 
 -- two functions that agree on a run of numbers make the same row of it
 pub map-over : {X : Type 0} (f g : ℕ → X) (a n : ℕ) → ((k : ℕ) → a ≤ k → k < a + n → f k ≡ g k) → map f (counting a n) ≡ map g (counting a n)
@@ -50,3 +54,29 @@ row-from-one xs n e =
 pub mapped-over : {X Y : Type 0} (f g : X → Y) (o : Option X) → ((x : X) → o ≡ Some x → f x ≡ g x) → mapped f o ≡ mapped g o
 mapped-over f g None same = refl
 mapped-over f g (Some x) same = ap Some (same x refl)
+
+-- a number before a run is none of it
+sum-before : (a n j f : ℕ) → j < a → sum (map (λ k. cond (eqb j k) f 0) (counting a n)) ≡ 0
+sum-before a n j f before =
+    ap sum (map-over (λ k. cond (eqb j k) f 0) (λ k. 0) a n (λ k low high. cond-false (eqb j k) f 0 (ne-eqb j k (λ e. omega arith))))
+    ∙ sum-zeros (counting a n)
+
+-- a number of a run is met once in it
+pub sum-once : (a n j f : ℕ) → a ≤ j → j < a + n → sum (map (λ k. cond (eqb j k) f 0) (counting a n)) ≡ f
+sum-once a zero j f low high = absurd (omega arith)
+sum-once a (suc n) j f low high =
+    let first = sumBy-cons (λ y. y) (cond (eqb j a) f 0) (map (λ k. cond (eqb j k) f 0) (counting (a + 1) n)) in
+    ⊎-elim
+    (λ same. omega (arith, first, cond-true (eqb j a) f 0 (eq-eqb j a same), sum-before (a + 1) n j f (omega arith)))
+    (λ other. omega (arith, first, cond-false (eqb j a) f 0 (ne-eqb j a other), sum-once (a + 1) n j f (omega arith) (omega arith)))
+    (cases-eq j a)
+
+-- a table comes to the same by its rows and by its columns
+pub sum-swap : {X Y : Type 0} (f : X → Y → ℕ) (xs : List X) (ys : List Y)
+    → sum (map (λ x. sum (map (λ y. f x y) ys)) xs) ≡ sum (map (λ y. sum (map (λ x. f x y) xs)) ys)
+sum-swap f [] ys = sym (sum-zeros ys)
+sum-swap f (x ∷ xs) ys =
+    sumBy-cons (λ n. n) (sum (map (λ y. f x y) ys)) (map (λ z. sum (map (λ y. f z y) ys)) xs)
+    ∙ ap (λ n. sum (map (λ y. f x y) ys) + n) (sum-swap f xs ys)
+    ∙ sym (sum-added (λ y. f x y) (λ y. sum (map (λ z. f z y) xs)) ys)
+    ∙ sym (λ i. sum (map (λ y. sumBy-cons (λ n. n) (f x y) (map (λ z. f z y) xs) i) ys))

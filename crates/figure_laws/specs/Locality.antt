@@ -1,11 +1,13 @@
 -- Which days and points an entry can move.
-use mathlib.Core.Bool.{true, false}
+use mathlib.Core.Bool.{false}
 use mathlib.Core.List.{_∷_}
 use mathlib.Core.Path.{_≡_}
 use Prim.Native.Nat.{ℕ, _<_}
-use Rattle.std.specs.declared.option.Option.the-variants.{Some, None}
+use Rattle.std.specs.declared.option.Option.the-variants.{Some}
+use Rattle.histories.specs.Calls.{Lawful}
 use Rattle.histories.specs.Figures.{estimated, figure}
-use Rattle.histories.specs.History.{History, Setting, covering, covers, enrolment-of}
+use Rattle.histories.specs.History.{History, Setting, covering, covers}
+use Rattle.histories.specs.Readings.{joined}
 use Rattle.histories.specs.declared.entry.Enrolment.{Enrolment}
 use Rattle.histories.specs.declared.entry.Entry.the-variants.{Enrolled, GateEntered, IntervalEntered, DegreeDaysEntered, ReadingTaken}
 use Rattle.histories.specs.declared.entry.GateDay.{GateDay}
@@ -16,8 +18,13 @@ use Rattle.figure_laws.specs.Days.{SameDay}
 abbrev pub Apart : History → ℕ → ℕ → Type 0
 Apart h d g = (p : ℕ) (r : Reading) → covering h p d ≡ Some r → covers r (r .point) g ≡ false
 
--- a gate day or an interval energy moves only its day and days that share a supplying reading with it
+-- a gate day or an interval energy moves only its day and days joined to it
 pub record LoadsMoveJoinedDays : Type 0 where
+  pub gate : (s : Setting) (h : History) (g d : ℕ) (energies : GateDay) → Lawful s h → (d ≡ g → ⊥) → joined h d g ≡ false → SameDay s h (GateEntered g energies ∷ h) d
+  pub interval : (s : Setting) (h : History) (g d meter energy : ℕ) → Lawful s h → (d ≡ g → ⊥) → joined h d g ≡ false → SameDay s h (IntervalEntered g meter energy ∷ h) d
+
+-- in any list of entries, days that share no supplying reading with its day stand
+pub record LoadsLeaveApartDays : Type 0 where
   pub gate : (s : Setting) (h : History) (g d : ℕ) (energies : GateDay) → (d ≡ g → ⊥) → Apart h d g → SameDay s h (GateEntered g energies ∷ h) d
   pub interval : (s : Setting) (h : History) (g d meter energy : ℕ) → (d ≡ g → ⊥) → Apart h d g → SameDay s h (IntervalEntered g meter energy ∷ h) d
 
@@ -31,8 +38,6 @@ pub record ReadingsMoveCoveredDays : Type 0 where
   pub other-days : (s : Setting) (h : History) (r : Reading) (d : ℕ) → covers r (r .point) d ≡ false → SameDay s h (ReadingTaken r ∷ h) d
   pub other-points : (s : Setting) (h : History) (r : Reading) (p d : ℕ) → 0 < p → (p ≡ r .point → ⊥) → estimated h p d ≡ false → figure s (ReadingTaken r ∷ h) p d ≡ figure s h p d
 
--- an enrolment of a point that was not enrolled moves only days from its start on
+-- an enrolment moves only days from its start on
 abbrev pub EnrolmentsMoveLaterDays : Type 0
-EnrolmentsMoveLaterDays =
-    (s : Setting) (h : History) (p d : ℕ) (e : Enrolment)
-    → enrolment-of h p ≡ None → d < e .start → SameDay s h (Enrolled p e ∷ h) d
+EnrolmentsMoveLaterDays = (s : Setting) (h : History) (p d : ℕ) (e : Enrolment) → Lawful s (Enrolled p e ∷ h) → d < e .start → SameDay s h (Enrolled p e ∷ h) d

@@ -1,7 +1,6 @@
 -- What the figures depend on: the latest entries, and the accepted readings in their order.
 use mathlib.Core.Path.{_≡_}
 use Prim.Native.Nat.{ℕ}
-use Rattle.histories.specs.Figures.{retailer-sum}
 use Rattle.histories.specs.History.{History, Setting, count-of, covering, enrolment-of, gate-of, interval-of}
 use Rattle.histories.specs.Readings.{accepted-readings}
 use Rattle.figure_laws.specs.Days.{SameDay}
@@ -13,10 +12,9 @@ pub record SameLatest (h new : History) : Type 0 where
   pub counts : (d : ℕ) → count-of new d ≡ count-of h d
   pub enrolments : (p : ℕ) → enrolment-of new p ≡ enrolment-of h p
 
--- every day, and every retailer's sum of it, is the same
-pub record SameSheet (s : Setting) (h new : History) : Type 0 where
-  pub days-stand : (d : ℕ) → SameDay s h new d
-  pub retailers-stand : (k d : ℕ) → retailer-sum s new k d ≡ retailer-sum s h k d
+-- every day is told the same
+abbrev pub SameSheet : Setting → History → History → Type 0
+SameSheet s h new = (d : ℕ) → SameDay s h new d
 
 -- histories with the same latest entries make the same sheet where the same readings supply it,
 -- and so where they accepted the same readings in the same order

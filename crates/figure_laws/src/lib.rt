@@ -1,6 +1,6 @@
 // The laws of the daily figures, proved of the definitions that a book's promises cite.
-ghost use Rattle.figure_laws.specs.Balance.{EachDayBalances, ScalingOnlyLowers, SuppliedStands};
-ghost use Rattle.figure_laws.specs.Locality.{CountsMoveEstimates, EnrolmentsMoveLaterDays, LoadsMoveJoinedDays, ReadingsMoveCoveredDays};
+ghost use Rattle.figure_laws.specs.Balance.{EachDayBalances, RetailersBalance, ScalingOnlyLowers, SuppliedStands};
+ghost use Rattle.figure_laws.specs.Locality.{CountsMoveEstimates, EnrolmentsMoveLaterDays, LoadsLeaveApartDays, LoadsMoveJoinedDays, ReadingsMoveCoveredDays};
 ghost use Rattle.figure_laws.specs.Orders.{LatestEntriesDecide};
 
 // A scaled estimate never exceeds its estimate.
@@ -41,4 +41,14 @@ pub fn enrolments_move_later_days()
 // The latest entries and the accepted readings in their order decide every day.
 pub fn latest_entries_decide()
     ensures { λ _. ⌜ LatestEntriesDecide ⌝ }
+{}
+
+// The retailers' day sums and the remainder make up load and excess.
+pub fn retailers_balance()
+    ensures { λ _. ⌜ RetailersBalance ⌝ }
+{}
+
+// A gate day or an interval energy leaves days that share no supplying reading with its day.
+pub fn loads_leave_apart_days()
+    ensures { λ _. ⌜ LoadsLeaveApartDays ⌝ }
 {}

@@ -1,4 +1,4 @@
-use Rattle.figure_laws.proofs.Local.{enrolment-moves}
+use Rattle.figure_laws.proofs.Lawfully.{enrolment-moves}
 use Rattle.figure_laws.proofs.enrolments_move_later_days.Needs as need
 
 pub returns : need.returns
