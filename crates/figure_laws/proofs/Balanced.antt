@@ -1,7 +1,7 @@
 -- Why each day balances.
 use mathlib.Core.Path.{_≡_, refl, sym, ap, subst, _∙_}
-use mathlib.Core.Bool.{Bool, true, false, cond, not, _&&_}
-use mathlib.Core.List.{List, map}
+use mathlib.Core.Bool.{Bool, true, false}
+use mathlib.Core.List.{map}
 use mathlib.Core.Logic.{_⊎_, inl, inr, ⊎-elim}
 use Prim.Native.Nat.{ℕ, _+_, _-_, _<_, _≤_}
 use native.Mathlib.Omega.{arith}
@@ -17,9 +17,8 @@ use Rattle.std.proofs.shelf.Tests.{and-cases, and-parts, cond-both, cond-false,
 use Rattle.loads.specs.Loads as loads
 use Rattle.sharing.specs.Laws.{length-shares, share-within, sum-shares}
 use Rattle.sharing.specs.Sharing.{shares}
-use Rattle.histories.specs.Figures.{estimate-counted, estimated, estimates, estimates-sum, exceeded, excess, figure, figures-sum, generated, generated-sum, interval-total, load, points-of, remainder, share-on, supplied, supplied-sum}
+use Rattle.histories.specs.Figures.{estimate-counted, estimates, estimates-sum, exceeded, figure, figures-sum, generated, generated-sum, interval-total, load, points-of, share-on, supplied, supplied-sum}
 use Rattle.histories.specs.History.{History, Setting, covering, gate-of}
-use Rattle.histories.specs.declared.entry.GateDay.{GateDay}
 use Rattle.histories.specs.declared.entry.Reading.{Reading}
 use Rattle.figure_laws.specs.Balance.{Balances}
 use Rattle.figure_laws.proofs.Day.{covered-not-estimated, generated-none}

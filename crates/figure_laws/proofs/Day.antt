@@ -1,26 +1,23 @@
 -- What the figures of a day are made of, and that nothing else moves them.
-use mathlib.Core.Path.{_≡_, refl, sym, ap, ap₂, fun-ext, _∙_}
+use mathlib.Core.Path.{_≡_, refl, ap, _∙_}
 use mathlib.Core.Bool.{Bool, true, false, cond, not, _&&_}
-use mathlib.Core.List.{List, map}
-use mathlib.Core.Logic.{_⊎_, inl, inr, ⊎-elim}
-use Prim.Native.Nat.{ℕ, _+_, _-_, _<_, _≤_}
+use mathlib.Core.List.{map}
+use mathlib.Core.Logic.{⊎-elim}
+use Prim.Native.Nat.{ℕ, _-_, _<_, _≤_}
 use native.Mathlib.Omega.{arith}
-use lib.ListN.{getD, length}
+use lib.ListN.{getD}
 use Rattle.std.specs.Iters.{counting}
 use Rattle.std.specs.Options.{isSome, mapped, valueOr}
-use Rattle.std.specs.declared.option.Option.{Option}
-use Rattle.std.specs.declared.option.Option.the-variants.{Some, None}
+use Rattle.std.specs.declared.option.Option.the-variants.{Some}
 use Rattle.std.specs.shelf.Lists.{countBy, sum}
 use Rattle.std.proofs.shelf.Counted.{getD-map-counting, length-map-counting}
 use Rattle.std.proofs.shelf.Lists.{getD-past}
 use Rattle.std.proofs.shelf.Tests.{cases-lt, cond-false, cond-both}
 use Rattle.loads.specs.Loads as loads
-use Rattle.sharing.specs.Laws.{length-shares, share-of-nothing}
+use Rattle.sharing.specs.Laws.{share-of-nothing}
 use Rattle.sharing.specs.Sharing.{shares}
-use Rattle.histories.specs.Figures.{active, begun, belongs, estimate, estimate-counted, estimated, estimates, estimates-sum, exceeded, excess, figure, figures-sum, generated, generated-sum, load, missing, points-of, remainder, retailer-sum, share-on, supplied, supplied-sum, weight, weights}
-use Rattle.histories.specs.History.{History, Setting, count-of, covering, enrolment-of, gate-of, interval-of}
-use Rattle.histories.specs.declared.entry.Enrolment.{Enrolment}
-use Rattle.histories.specs.declared.entry.GateDay.{GateDay}
+use Rattle.histories.specs.Figures.{active, belongs, estimate, estimate-counted, estimated, estimates, estimates-sum, exceeded, figure, figures-sum, generated, load, missing, points-of, retailer-sum, share-on, supplied, supplied-sum, weight, weights}
+use Rattle.histories.specs.History.{History, Setting, covering, enrolment-of, gate-of, interval-of}
 use Rattle.histories.specs.declared.entry.Reading.{Reading}
 use Rattle.figure_laws.specs.Days.{SameDay}
 use Rattle.figure_laws.proofs.Over.{map-over, mapped-over}

@@ -2,7 +2,7 @@
 use mathlib.Core.Path.{_≡_, refl, sym, ap, _∙_}
 use mathlib.Core.Bool.{Bool, true, false, cond, not, _&&_}
 use mathlib.Core.List.{_∷_}
-use mathlib.Core.Logic.{_⊎_, inl, inr, ⊎-elim}
+use mathlib.Core.Logic.{⊎-elim}
 use Prim.Native.Nat.{ℕ, _<_}
 use Rattle.std.specs.Options.{isSome, mapped, orOther, valueOr}
 use Rattle.std.specs.declared.option.Option.{Option}
@@ -10,7 +10,7 @@ use Rattle.std.specs.declared.option.Option.the-variants.{Some, None}
 use Rattle.std.specs.shelf.Lists.{sum}
 use Rattle.std.proofs.shelf.Tests.{and-from, cases-bool, cases-eq, both-ways, ne-eqb, true≢false}
 use Rattle.histories.specs.Calls.{Lawful}
-use Rattle.histories.specs.Figures.{active, begun, belongs, estimated, figure, retailer-sum, share-on}
+use Rattle.histories.specs.Figures.{active, begun, belongs, figure, retailer-sum, share-on}
 use Rattle.histories.specs.History.{History, Setting, covering, covers, enrolment-of}
 use Rattle.histories.specs.Readings.{held-of, joined}
 use Rattle.histories.specs.declared.entry.Enrolment.{Enrolment}

@@ -1,17 +1,17 @@
 -- What an entry can move.
-use mathlib.Core.Path.{_≡_, refl, sym, ap, subst, _∙_}
-use mathlib.Core.Bool.{Bool, true, false, cond, not, _&&_}
-use mathlib.Core.List.{List, _∷_, map}
-use mathlib.Core.Logic.{_⊎_, inl, inr, ⊎-elim}
-use Prim.Native.Nat.{ℕ, _+_, _-_, _<_, _≤_}
+use mathlib.Core.Path.{_≡_, refl, sym, ap, _∙_}
+use mathlib.Core.Bool.{true, false, cond, not, _&&_}
+use mathlib.Core.List.{_∷_}
+use mathlib.Core.Logic.{⊎-elim}
+use Prim.Native.Nat.{ℕ, _<_, _≤_}
 use native.Mathlib.Omega.{arith}
 use lib.Dec.{eqb, leb, ltb}
 use Rattle.std.specs.Options.{isSome, mapped, orOther, valueOr}
 use Rattle.std.specs.declared.option.Option.{Option}
 use Rattle.std.specs.declared.option.Option.the-variants.{Some, None}
-use Rattle.std.proofs.shelf.Tests.{and-cases, and-from, and-left, and-right, cases-eq, cond-false, eq-eqb, false≢true, le-leb, lt-leb, lt-ltb, ne-eqb, true≢false}
-use Rattle.histories.specs.Figures.{active, begun, estimate, estimated, figure, load, share-on, supplied, under-count}
-use Rattle.histories.specs.History.{History, Setting, covering, covers, count-of, count-in, enrolment-of, gate-in, gate-of, interval-in, interval-of, latest, reading-in}
+use Rattle.std.proofs.shelf.Tests.{and-cases, and-from, and-left, and-right, cases-eq, cond-false, eq-eqb, false≢true, le-leb, lt-leb, lt-ltb, ne-eqb}
+use Rattle.histories.specs.Figures.{active, begun, estimated, figure, load, share-on, under-count}
+use Rattle.histories.specs.History.{History, Setting, covering, covers, count-of, count-in, enrolment-of, gate-in, interval-in, latest, reading-in}
 use Rattle.histories.specs.declared.entry.Enrolment.{Enrolment}
 use Rattle.histories.specs.declared.entry.Entry.{Entry}
 use Rattle.histories.specs.declared.entry.Entry.the-variants.{Enrolled, GateEntered, IntervalEntered, DegreeDaysEntered, ReadingTaken}

@@ -1,18 +1,16 @@
 -- The figures depend on the latest entries and on the accepted readings in their order.
 use mathlib.Core.Path.{_≡_, refl, sym, ap, _∙_}
-use mathlib.Core.Bool.{Bool, true, false, cond, not, _&&_}
-use mathlib.Core.List.{List, [], _∷_, map}
+use mathlib.Core.Bool.{cond, not, _&&_}
+use mathlib.Core.List.{List, [], _∷_}
 use Prim.Native.Nat.{ℕ}
 use Rattle.std.specs.Options.{isSome, orOther}
 use Rattle.std.specs.declared.option.Option.{Option}
 use Rattle.std.specs.declared.option.Option.the-variants.{Some, None}
 use Rattle.histories.specs.Figures.{begun, load, under-count}
-use Rattle.histories.specs.History.{History, Setting, covering, covers, reading-in}
+use Rattle.histories.specs.History.{History, Setting, covering, covers}
 use Rattle.histories.specs.Readings.{accepted-readings}
-use Rattle.histories.specs.declared.entry.Entry.{Entry}
 use Rattle.histories.specs.declared.entry.Entry.the-variants.{Enrolled, GateEntered, IntervalEntered, DegreeDaysEntered, ReadingTaken}
 use Rattle.histories.specs.declared.entry.Reading.{Reading}
-use Rattle.figure_laws.specs.Days.{SameDay}
 use Rattle.figure_laws.specs.Orders.{SameLatest, SameSheet}
 use Rattle.figure_laws.proofs.Day.{SameParts, load-same, same-day-enrolled, share-same, supplied-from}
 

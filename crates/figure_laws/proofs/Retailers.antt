@@ -1,18 +1,18 @@
 -- Why the retailers' sums leave no figure out and count none twice.
-use mathlib.Core.Path.{_≡_, refl, sym, ap, subst, _∙_}
-use mathlib.Core.Bool.{Bool, true, false, cond, not, _&&_}
-use mathlib.Core.List.{List, [], _∷_, map}
-use Prim.Native.Nat.{ℕ, _+_, _<_, _≤_}
+use mathlib.Core.Path.{_≡_, refl, sym, ap, _∙_}
+use mathlib.Core.Bool.{Bool, true, false, cond, _&&_}
+use mathlib.Core.List.{[], _∷_, map}
+use Prim.Native.Nat.{ℕ, _+_}
 use native.Mathlib.Omega.{arith}
 use lib.Dec.{eqb, leb}
 use Rattle.std.specs.Iters.{counting}
-use Rattle.std.specs.Options.{isSome, orOther}
+use Rattle.std.specs.Options.{orOther}
 use Rattle.std.specs.declared.option.Option.{Option}
 use Rattle.std.specs.declared.option.Option.the-variants.{Some, None}
 use Rattle.std.specs.shelf.Lists.{sum}
 use Rattle.std.proofs.shelf.Tests.{and-parts, leb-true, not-false}
 use Rattle.histories.specs.Calls.{Lawful, between, beyond-limits, entry-of, retailers}
-use Rattle.histories.specs.Figures.{begun, belongs, excess, figure, figures-sum, load, points-of, remainder, retailer-sum}
+use Rattle.histories.specs.Figures.{begun, belongs, excess, figure, figures-sum, load, points-of, remainder}
 use Rattle.histories.specs.History.{History, Setting, enrolment-of}
 use Rattle.histories.specs.declared.call.Call.{Call}
 use Rattle.histories.specs.declared.call.Call.the-variants.{Enrol, EnterGate, EnterInterval, EnterDegreeDays, EnterReading, AskFigure, AskDay, AskRetailer}
