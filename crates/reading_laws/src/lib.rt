@@ -1,4 +1,5 @@
 // What holds of the readings of every history that a book can have: there is nothing to compute.
+ghost use Rattle.reading_laws.specs.Worked.{WorkedReadings};
 ghost use Rattle.reading_laws.specs.Laws.{LastCoveringIsHeld, HeldLieEndToEnd, ReadingsReplaceWholes, HeldWithinPlaces, OtherEntriesLeaveReadings, HeldLieInBook};
 
 // The last accepted reading that covers a point's day is the one held reading that covers it.
@@ -29,4 +30,9 @@ pub fn other_entries_leave_readings()
 // A held reading keeps within the limits of the book, and each day that it covers has a load.
 pub fn held_readings_lie_in_the_book()
     ensures { λ _. ⌜ HeldLieInBook ⌝ }
+{}
+
+// One book and its readings, worked by hand: each refusal that a reading can meet.
+pub fn worked_readings_hold()
+    ensures { λ _. ⌜ WorkedReadings ⌝ }
 {}
