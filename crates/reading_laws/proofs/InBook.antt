@@ -1,5 +1,5 @@
 -- Held readings lie in the book, and their days have loads. Assumes nothing.
-use mathlib.Core.Bool.{Bool, true, false, cond, not, _&&_}
+use mathlib.Core.Bool.{Bool, true, false, cond, not}
 use mathlib.Core.List.{List, [], _∷_}
 use mathlib.Core.Logic.{inl, inr}
 use mathlib.Core.Path.{_≡_, refl, sym, ap, subst, _∙_}
@@ -8,16 +8,15 @@ use native.Mathlib.Omega.{arith}
 use lib.Dec.{leb, ltb}
 use lib.IntN.{ℤ, pos, negsuc}
 use lib.ListN.{length, getD}
-use Rattle.std.specs.Iters.{counting}
 use Rattle.std.specs.Options.{isSome, mapped, orOther}
 use Rattle.std.specs.declared.option.Option.{Option}
 use Rattle.std.specs.declared.option.Option.the-variants.{Some, None}
-use Rattle.std.specs.shelf.Lists.{All, kept-by}
+use Rattle.std.specs.shelf.Lists.{All}
 use Rattle.std.proofs.shelf.Counted.{getD-counting, length-counting}
 use Rattle.std.proofs.shelf.Elements.{all-getD}
 use Rattle.std.proofs.shelf.Tests.{and-parts, leb-true, ltb-true, not-false, true≢false}
 use Rattle.calendar.specs.Digits.{day-number-of}
-use Rattle.histories.specs.Calls.{Lawful, between, beyond-limits, conditions, covered-without-load, days-of, energy-of, energy-within, entry-of, first-without-load, in-book, largest-energy, of-reading, outside-book}
+use Rattle.histories.specs.Calls.{Lawful, between, beyond-limits, covered-without-load, days-of, energy-of, energy-within, entry-of, first-without-load, in-book, largest-energy, of-reading, outside-book}
 use Rattle.histories.specs.Figures.{load, load-by}
 use Rattle.histories.specs.History.{History, Setting, gate-in, gate-of}
 use Rattle.histories.specs.Readings.{replaces}
@@ -25,7 +24,6 @@ use Rattle.histories.specs.declared.call.Call.{Call}
 use Rattle.histories.specs.declared.call.Call.the-variants.{Enrol, EnterGate, EnterInterval, EnterDegreeDays, EnterReading, AskFigure, AskDay, AskRetailer}
 use Rattle.histories.specs.declared.entry.Entry.{Entry}
 use Rattle.histories.specs.declared.entry.Entry.the-variants.{Enrolled, GateEntered, IntervalEntered, DegreeDaysEntered, ReadingTaken}
-use Rattle.histories.specs.declared.entry.GateDay.{GateDay}
 use Rattle.histories.specs.declared.entry.Reading.{Reading}
 use Rattle.reading_laws.specs.Held.{Held}
 use Rattle.reading_laws.specs.Laws.{InBook, Within}

@@ -1,8 +1,7 @@
 -- One book and its readings, worked by hand: each refusal that a reading can meet.
-use mathlib.Core.List.{List, [], _∷_}
+use mathlib.Core.List.{[], _∷_}
 use mathlib.Core.Path.{_≡_}
 use lib.IntN.{pos, negsuc}
-use Rattle.std.specs.declared.option.Option.{Option}
 use Rattle.std.specs.declared.option.Option.the-variants.{Some, None}
 use Rattle.readings.specs.declared.ReadingType.the-variants.{Actual, Substituted, Estimated}
 use Rattle.histories.specs.Calls.{Lawful, refusal}
