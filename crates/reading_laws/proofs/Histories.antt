@@ -1,22 +1,18 @@
 -- The readings of every history lie end to end. Assumes nothing.
-use mathlib.Core.Bool.{Bool, true, false, cond, not, _&&_, _||_}
-use mathlib.Core.List.{List, [], _∷_}
+use mathlib.Core.Bool.{Bool, true, not, _&&_}
+use mathlib.Core.List.{[], _∷_}
 use mathlib.Core.Logic.{_⊎_, inl, inr, ⊎-elim}
-use mathlib.Core.Path.{_≡_, refl, sym, ap, _∙_}
+use mathlib.Core.Path.{_≡_, refl}
 use Prim.Native.Nat.{ℕ, _≤_, _<_}
-use native.Mathlib.Omega.{arith}
 use lib.Dec.{eqb, leb}
-use Rattle.std.specs.declared.option.Option.{Option}
-use Rattle.std.specs.declared.option.Option.the-variants.{Some, None}
+use Rattle.std.specs.declared.option.Option.the-variants.{None}
 use Rattle.std.proofs.shelf.Tests.{and-parts, and-from, both-ways, cases-lt, eqb-true, eq-eqb, le-leb, not-true, or-cases, or-left, or-right}
 use Rattle.histories.specs.Calls.{Lawful, after-all-marks, started-before}
-use Rattle.histories.specs.History.{History, Setting, covering, covers, enrolment-of}
+use Rattle.histories.specs.History.{History, Setting, covering, enrolment-of}
 use Rattle.histories.specs.Readings.{held-of, mark, replaces, some-reading, starts}
-use Rattle.histories.specs.declared.entry.Enrolment.{Enrolment}
-use Rattle.histories.specs.declared.entry.Entry.{Entry}
 use Rattle.histories.specs.declared.entry.Entry.the-variants.{Enrolled, GateEntered, IntervalEntered, DegreeDaysEntered, ReadingTaken}
 use Rattle.histories.specs.declared.entry.Reading.{Reading}
-use Rattle.reading_laws.specs.Held.{Among, Held}
+use Rattle.reading_laws.specs.Held.{Held}
 use Rattle.reading_laws.proofs.Accepted.{Fits, fits, newly-enrolled}
 use Rattle.reading_laws.proofs.Members.{among-some, some-among}
 use Rattle.reading_laws.proofs.Tiled.{AtMark, Tiled, tiled-enrolled, tiled-more, tiled-none, whole}

@@ -1,5 +1,5 @@
 -- The last accepted reading that covers a day is the one held reading that does. Assumes nothing.
-use mathlib.Core.Bool.{Bool, true}
+use mathlib.Core.Bool.{true}
 use mathlib.Core.Path.{_≡_, refl, ap, _∙_}
 use Prim.Native.Nat.{ℕ}
 use Rattle.std.specs.Options.{isSome}

@@ -1,6 +1,7 @@
 pub mod Accepted
 pub mod EndToEnd
 pub mod Histories
+pub mod InBook
 pub mod LastCovering
 pub mod Leaving
 pub mod Members

@@ -5,12 +5,11 @@ use mathlib.Core.Path.{_≡_}
 use Prim.Native.Nat.{ℕ, _≤_, _<_}
 use lib.ListN.{length}
 use Rattle.std.specs.Options.{isSome}
-use Rattle.std.specs.declared.option.Option.{Option}
 use Rattle.std.specs.declared.option.Option.the-variants.{Some, None}
 use Rattle.std.specs.shelf.Lists.{countBy}
 use Rattle.readings.specs.Types.{firm}
-use Rattle.histories.specs.Calls.{Lawful, after-all-marks}
-use Rattle.histories.specs.Figures.{active}
+use Rattle.histories.specs.Calls.{Lawful, after-all-marks, largest-energy}
+use Rattle.histories.specs.Figures.{active, load}
 use Rattle.histories.specs.History.{History, Setting, covering, covers, enrolment-of}
 use Rattle.histories.specs.Readings.{held-of, mark, replaces, some-reading}
 use Rattle.histories.specs.declared.entry.Entry.{Entry}
@@ -76,3 +75,18 @@ pub record Leaves (e : Entry) (h : History) : Type 0 where
 
 abbrev pub OtherEntriesLeaveReadings : Type 0
 OtherEntriesLeaveReadings = (e : Entry) (h : History) → Leaves e h
+
+-- a reading keeps within the limits of the book: its days, its points, and the largest energy
+pub record Within (s : Setting) (r : Reading) : Type 0 where
+  pub ends-in-book : r .end ≤ s .days
+  pub point-low : 1 ≤ r .point
+  pub point-high : r .point ≤ s .points
+  pub energy-limited : r .energy ≤ largest-energy
+
+-- A held reading keeps within the limits, and each day that it covers has a load.
+pub record InBook (s : Setting) (h : History) (r : Reading) : Type 0 where
+  pub within : Within s r
+  pub days-have-loads : (d : ℕ) → r .start ≤ d → d < r .end → isSome (load s h d) ≡ true
+
+abbrev pub HeldLieInBook : Type 0
+HeldLieInBook = (s : Setting) (h : History) → Lawful s h → (r : Reading) → Held h r → InBook s h r

@@ -1,5 +1,6 @@
 // What holds of the readings of every history that a book can have: there is nothing to compute.
-ghost use Rattle.reading_laws.specs.Laws.{LastCoveringIsHeld, HeldLieEndToEnd, ReadingsReplaceWholes, HeldWithinPlaces, OtherEntriesLeaveReadings};
+ghost use Rattle.reading_laws.specs.Worked.{WorkedReadings};
+ghost use Rattle.reading_laws.specs.Laws.{LastCoveringIsHeld, HeldLieEndToEnd, ReadingsReplaceWholes, HeldWithinPlaces, OtherEntriesLeaveReadings, HeldLieInBook};
 
 // The last accepted reading that covers a point's day is the one held reading that covers it.
 pub fn last_covering_reading_is_held()
@@ -24,4 +25,14 @@ pub fn held_readings_have_places()
 // Entries that are no readings leave what is held, and entries of other points a point's marks.
 pub fn other_entries_leave_readings()
     ensures { λ _. ⌜ OtherEntriesLeaveReadings ⌝ }
+{}
+
+// A held reading keeps within the limits of the book, and each day that it covers has a load.
+pub fn held_readings_lie_in_the_book()
+    ensures { λ _. ⌜ HeldLieInBook ⌝ }
+{}
+
+// One book and its readings, worked by hand: each refusal that a reading can meet.
+pub fn worked_readings_hold()
+    ensures { λ _. ⌜ WorkedReadings ⌝ }
 {}
