@@ -5,3 +5,4 @@ pub mod Local
 pub mod Ordered
 pub mod Over
 pub mod Retailers
+pub mod Showing

@@ -2,6 +2,8 @@
 ghost use Rattle.figure_laws.specs.Balance.{EachDayBalances, RetailersBalance, ScalingOnlyLowers, SuppliedStands};
 ghost use Rattle.figure_laws.specs.Locality.{CountsMoveEstimates, EnrolmentsMoveLaterDays, LoadsLeaveApartDays, LoadsMoveJoinedDays, ReadingsMoveCoveredDays};
 ghost use Rattle.figure_laws.specs.Orders.{LatestEntriesDecide};
+ghost use Rattle.figure_laws.specs.Shown.{EstimatedDaysShown};
+ghost use Rattle.figure_laws.specs.Worked.{WorkedDays};
 
 // A scaled estimate never exceeds its estimate.
 pub fn scaling_only_lowers()
@@ -51,4 +53,14 @@ pub fn retailers_balance()
 // A gate day or an interval energy leaves days that share no supplying reading with its day.
 pub fn loads_leave_apart_days()
     ensures { λ _. ⌜ LoadsLeaveApartDays ⌝ }
+{}
+
+// A day that no reading covers shows the latest estimate, scaled where it must be, and nothing before the start day.
+pub fn estimated_days_shown()
+    ensures { λ _. ⌜ EstimatedDaysShown ⌝ }
+{}
+
+// Days worked by hand.
+pub fn worked_days_hold()
+    ensures { λ _. ⌜ WorkedDays ⌝ }
 {}
