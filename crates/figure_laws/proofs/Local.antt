@@ -1,6 +1,6 @@
 -- What an entry can move.
 use mathlib.Core.Path.{_≡_, refl, sym, ap, _∙_}
-use mathlib.Core.Bool.{true, false, cond, not, _&&_}
+use mathlib.Core.Bool.{Bool, true, false, cond, not, _&&_}
 use mathlib.Core.List.{_∷_}
 use mathlib.Core.Logic.{⊎-elim}
 use Prim.Native.Nat.{ℕ, _<_, _≤_}
@@ -122,6 +122,14 @@ reading-others s h r p d above other none =
     figure-supplied s (ReadingTaken r ∷ h) p d above (ap (λ o. active h p d && not (isSome o)) same ∙ none)
     ∙ ap (λ o. valueOr (mapped (share-on s h d) o) 0) same
     ∙ sym (figure-supplied s h p d above none)
+
+-- a covered day stays covered
+pub stays-covered : (h : History) (r : Reading) (p d : ℕ) → isSome (covering h p d) ≡ true → isSome (covering (ReadingTaken r ∷ h) p d) ≡ true
+stays-covered h r p d some = go (covers r p d)
+  where
+    go : (b : Bool) → isSome (orOther (cond b (Some r) None) (covering h p d)) ≡ true
+    go true = refl
+    go false = some
 
 -- Enrolments.
 

@@ -1,8 +1,9 @@
 -- Which days and points an entry can move.
-use mathlib.Core.Bool.{false}
+use mathlib.Core.Bool.{true, false}
 use mathlib.Core.List.{_∷_}
 use mathlib.Core.Path.{_≡_}
 use Prim.Native.Nat.{ℕ, _<_}
+use Rattle.std.specs.Options.{isSome}
 use Rattle.std.specs.declared.option.Option.the-variants.{Some}
 use Rattle.histories.specs.Calls.{Lawful}
 use Rattle.histories.specs.Figures.{estimated, figure}
@@ -37,6 +38,8 @@ pub record CountsMoveEstimates : Type 0 where
 pub record ReadingsMoveCoveredDays : Type 0 where
   pub other-days : (s : Setting) (h : History) (r : Reading) (d : ℕ) → covers r (r .point) d ≡ false → SameDay s h (ReadingTaken r ∷ h) d
   pub other-points : (s : Setting) (h : History) (r : Reading) (p d : ℕ) → 0 < p → (p ≡ r .point → ⊥) → estimated h p d ≡ false → figure s (ReadingTaken r ∷ h) p d ≡ figure s h p d
+  -- no day is uncovered
+  pub stays-covered : (h : History) (r : Reading) (p d : ℕ) → isSome (covering h p d) ≡ true → isSome (covering (ReadingTaken r ∷ h) p d) ≡ true
 
 -- an enrolment moves only days from its start on
 abbrev pub EnrolmentsMoveLaterDays : Type 0

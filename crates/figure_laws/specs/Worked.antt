@@ -67,19 +67,23 @@ pub record Day (s : Setting) (h : History) (d n supplied generated left beyond w
   pub exceeds : excess s h d n ≡ beyond
   pub lacks : missing s h d ≡ without
 
+-- the figures of points 1 to 4
+pub record Four (h : History) (a b c d : ℕ) : Type 0 where
+  pub at-1 : figure four-points h 1 0 ≡ a
+  pub at-2 : figure four-points h 2 0 ≡ b
+  pub at-3 : figure four-points h 3 0 ≡ c
+  pub at-4 : figure four-points h 4 0 ≡ d
+
 pub record WorkedDays : Type 0 where
   -- a load of 101 leaves 31 beside 70 supplied, shared over the estimates
-  pub scaled-1 : figure four-points (supplied-beside 101 70) 1 0 ≡ 70
-  pub scaled-2 : figure four-points (supplied-beside 101 70) 2 0 ≡ 12
-  pub scaled-3 : figure four-points (supplied-beside 101 70) 3 0 ≡ 12
-  pub scaled-4 : figure four-points (supplied-beside 101 70) 4 0 ≡ 7
+  pub scaled : Four (supplied-beside 101 70) 70 12 12 7
   pub scaled-day : Day four-points (supplied-beside 101 70) 0 101 70 31 0 0 0
-  -- 120 supplied exceed a load of 100 by 20, and nothing is left to share
-  pub beyond-1 : figure four-points (supplied-beside 100 120) 1 0 ≡ 120
-  pub beyond-2 : figure four-points (supplied-beside 100 120) 2 0 ≡ 0
-  pub beyond-day : Day four-points (supplied-beside 100 120) 0 100 120 0 0 20 0
   -- supplied energy and estimates that equal the load stand as they are
+  pub equal : Four (supplied-beside 120 70) 70 20 20 10
   pub equal-day : Day four-points (supplied-beside 120 70) 0 120 70 50 0 0 0
+  -- 120 supplied exceed a load of 100 by 20, and nothing is left to share
+  pub beyond : Four (supplied-beside 100 120) 120 0 0 0
+  pub beyond-day : Day four-points (supplied-beside 100 120) 0 100 120 0 0 20 0
   -- a point without an estimate is missing until the weather comes
   pub missing-first : Day two-days before-weather 0 100 50 0 50 0 1
   pub first-day : Day two-days after-weather 0 100 50 30 20 0 0

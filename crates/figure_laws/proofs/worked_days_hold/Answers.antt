@@ -5,15 +5,12 @@ use Rattle.figure_laws.proofs.worked_days_hold.Needs as need
 pub returns : need.returns
 unfolding part share-at shares
 returns c = record {
-  scaled-1 = refl;
-  scaled-2 = refl;
-  scaled-3 = refl;
-  scaled-4 = refl;
+  scaled = record { at-1 = refl; at-2 = refl; at-3 = refl; at-4 = refl };
   scaled-day = record { loads = refl; supplies = refl; generates = refl; leaves = refl; exceeds = refl; lacks = refl };
-  beyond-1 = refl;
-  beyond-2 = refl;
-  beyond-day = record { loads = refl; supplies = refl; generates = refl; leaves = refl; exceeds = refl; lacks = refl };
+  equal = record { at-1 = refl; at-2 = refl; at-3 = refl; at-4 = refl };
   equal-day = record { loads = refl; supplies = refl; generates = refl; leaves = refl; exceeds = refl; lacks = refl };
+  beyond = record { at-1 = refl; at-2 = refl; at-3 = refl; at-4 = refl };
+  beyond-day = record { loads = refl; supplies = refl; generates = refl; leaves = refl; exceeds = refl; lacks = refl };
   missing-first = record { loads = refl; supplies = refl; generates = refl; leaves = refl; exceeds = refl; lacks = refl };
   first-day = record { loads = refl; supplies = refl; generates = refl; leaves = refl; exceeds = refl; lacks = refl };
   second-day = record { loads = refl; supplies = refl; generates = refl; leaves = refl; exceeds = refl; lacks = refl };
