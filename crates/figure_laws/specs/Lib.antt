@@ -1,0 +1,6 @@
+pub mod Balance
+pub mod Days
+pub mod Locality
+pub mod Orders
+pub mod Shown
+pub mod Worked

@@ -1,0 +1,4 @@
+pub mod Calls
+pub mod Figures
+pub mod History
+pub mod Readings

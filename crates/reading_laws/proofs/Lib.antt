@@ -1,0 +1,10 @@
+pub mod Accepted
+pub mod EndToEnd
+pub mod Histories
+pub mod InBook
+pub mod LastCovering
+pub mod Leaving
+pub mod Members
+pub mod Replacing
+pub mod Spans
+pub mod Tiled
