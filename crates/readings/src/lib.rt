@@ -8,7 +8,7 @@ pub enum ReadingType {
     Actual,
     Substituted,
     Estimated,
-    Customer,
+    CustomersOwn,
 }
 
 impl ReadingType {
