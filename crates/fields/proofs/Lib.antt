@@ -1,0 +1,5 @@
+pub mod Digits
+pub mod Spaces
+pub mod Placing
+pub mod Scanning
+pub mod Exits
