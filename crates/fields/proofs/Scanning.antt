@@ -50,14 +50,15 @@ sign-apart m n d v rest told e =
     let same : m ≡ n = told ∙ ap (λ l. eqb (getD l 0 0) 45) e ∙ sign-told n d v in
     (same, append-cancel-left (sign n) rest (digits-kept d v) (rw same at e))
 
--- so can each part of a text
-pub same-text : (t u : Text) → T (text-fits t) → T (text-fits u) → text-columns t ≡ text-columns u → (t .minus ≡ u .minus) × (t .digits ≡ u .digits) × (t .value ≡ u .value)
+-- a text can be told from its columns
+pub same-text : (t u : Text) → T (text-fits t) → T (text-fits u) → text-columns t ≡ text-columns u → t ≡ u
 unfolding columns-of
 same-text t u p q e =
     let a = spaces-apart _ _ _ _ (no-space (t .minus) (t .digits) (t .value)) (no-space (u .minus) (u .digits) (u .value)) e in
     let b = sign-apart (t .minus) (u .minus) (u .digits) (u .value) (digits-kept (t .digits) (t .value)) (sym (sign-told (t .minus) (t .digits) (t .value))) (a .1) in
     let d : t .digits ≡ u .digits = sym (length-kept (t .digits) (t .value)) ∙ ap length (b .1) ∙ length-kept (u .digits) (u .value) in
-    (b .0, d, same-from-kept (u .digits) (t .value) (u .value) (rw d at (parts-of-fit t p .0)) (parts-of-fit u q .0) (rw d at (b .1)))
+    let v = same-from-kept (u .digits) (t .value) (u .value) (rw d at (parts-of-fit t p .0)) (parts-of-fit u q .0) (rw d at (b .1)) in
+    λ i. record { minus = b .0 i; digits = d i; value = v i }
 
 -- ten columns cut behind their spaces and their minus
 pub record Cut (cs : List ℕ) (s : ℕ) (m : Bool) : Type 0 where

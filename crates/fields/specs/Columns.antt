@@ -6,8 +6,8 @@ use lib.Dec.{ltb}
 use lib.IntN.{ℤ, pos, negsuc}
 use lib.ListN.{length, replicate}
 use Rattle.std.specs.Written as written
-use Rattle.fields.specs.declared.reading_type.ReadingType.{ReadingType}
-use Rattle.fields.specs.declared.reading_type.ReadingType.the-variants.{Actual, Substituted, Estimated, CustomersOwn}
+use Rattle.fields.specs.declared.letter.ReadingType.{ReadingType}
+use Rattle.fields.specs.declared.letter.ReadingType.the-variants.{Actual, Substituted, Estimated, CustomersOwn}
 
 -- a text at the right of ten columns, spaces before it
 abbrev pub right-aligned : List ℕ → List ℕ

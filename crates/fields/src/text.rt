@@ -4,9 +4,10 @@ ghost use mathlib.Core.List.{_++_};
 ghost use Prim.Native.Nat.{ℕ, _^_, _<_, _≤_};
 ghost use lib.Dec.{T, eqb, ltb};
 ghost use lib.ListN.{length, getD, replicate, drop};
+ghost use Rattle.std.specs.Written.{decimal};
 ghost use Rattle.fields.specs.Columns.{digits-kept};
 ghost use Rattle.fields.specs.Reads.{Reads};
-ghost use Rattle.fields.specs.Texts.{text-fits, text-columns, plain};
+ghost use Rattle.fields.specs.Texts.{text-fits, text-columns, plain, plain-text};
 use refusals::Refusal;
 
 // What stands in a field behind its leading spaces: digits, perhaps after a minus.
@@ -36,6 +37,19 @@ fn begins_with_minus(bytes: &[u8]) -> bool
     ensures { λ r. ⌜ r ≡ eqb (getD (now (bytes .entry)) 0 0) 45 ⌝ }
 {
     !bytes.is_empty() && bytes[0] == b'-'
+}
+
+// How many digits a number has, with no leading zero.
+fn digit_count(value: u64) -> usize
+    ensures { λ r. ⌜ r ≡ length (decimal value) ⌝ }
+{
+    let mut digits = 1;
+    let mut rest = value;
+    while rest >= 10 {
+        rest /= 10;
+        digits += 1;
+    }
+    digits
 }
 
 // The number that the digits write; malformed where a byte is no digit.
@@ -81,6 +95,17 @@ impl Text {
             0 => false,
             1 => true,
             digits => 10u64.pow(digits as u32 - 1) <= self.value,
+        }
+    }
+
+    // The text of a number with no leading zero.
+    pub(crate) fn plain(minus: bool, value: u64) -> Text
+        ensures { λ r. ⌜ r ≡ plain-text minus value ⌝ }
+    {
+        Text {
+            minus,
+            digits: digit_count(value),
+            value,
         }
     }
 
