@@ -28,7 +28,7 @@ use Rattle.fields.specs.declared.text.Text.{Text}
 use Rattle.fields.proofs.Exits.{broken}
 use Rattle.fields.proofs.Placing.{parts-of-fit}
 use Rattle.fields.proofs.Decimal.{Shown, shown, digits-unique}
-use Rattle.fields.proofs.Scanning.{same-text}
+use Rattle.fields.proofs.Scanning.{length-columns, same-text}
 
 -- what is written of a value that fits is the columns of a text of the sort, and each text of the sort is of such a value
 pub record Sort {X : Type 0} (fits : X → Bool) (writing : X → List ℕ) (sort : Text → Bool) (value : Text → X) : Type 0 where
@@ -36,6 +36,7 @@ pub record Sort {X : Type 0} (fits : X → Bool) (writing : X → List ℕ) (sor
   pub room : (x : X) → T (fits x) → T (text-fits (text x))
   pub columns : (x : X) → T (fits x) → writing x ≡ text-columns (text x)
   pub sorted : (x : X) → T (fits x) → sort (text x) ≡ true
+  pub back : (x : X) → value (text x) ≡ x
   pub found : (t : Text) → T (text-fits t) → sort t ≡ true → T (fits (value t)) × (text-columns t ≡ writing (value t))
 
 module _ {X : Type 0} {fits : X → Bool} {writing : X → List ℕ} {sort : Text → Bool} {value : Text → X} (s : Sort fits writing sort value) (bytes : List ℕ) where
@@ -57,6 +58,16 @@ module _ {X : Type 0} {fits : X → Bool} {writing : X → List ℕ} {sort : Tex
   of-sort t x same (room, here) e =
       let q = s .found t room (sym e) in
       subst (λ y. T (fits y) × (bytes ≡ writing y)) (sym same) (q .0, here ∙ q .1)
+
+-- what is written has ten columns, and tells the value
+module _ {X : Type 0} {fits : X → Bool} {writing : X → List ℕ} {sort : Text → Bool} {value : Text → X} (s : Sort fits writing sort value) where
+  pub ten-columns : (x : X) → T (fits x) → length (writing x) ≡ 10
+  ten-columns x h = ap length (s .columns x h) ∙ length-columns (s .text x) (s .room x h)
+
+  pub told-by-columns : (x y : X) → T (fits x) → T (fits y) → writing x ≡ writing y → x ≡ y
+  told-by-columns x y h k e =
+      let same : s .text x ≡ s .text y = same-text (s .text x) (s .text y) (s .room x h) (s .room y k) (sym (s .columns x h) ∙ e ∙ s .columns y k) in
+      sym (s .back x) ∙ ap value same ∙ s .back y
 
 -- what is written of a value that fits, and of no other
 pub written : {X : Type 0} (b : Bool) (x v : X) (n : ℕ) → b ≡ true → x ≡ v → Answers (Ok x) b v n
@@ -127,6 +138,7 @@ number-sort = record {
   room = number-room;
   columns = number-same;
   sorted = number-sorted;
+  back = λ n. refl;
   found = number-found;
 }
 
@@ -163,6 +175,11 @@ signed-sorted (negsuc n) h =
     let p = ltb→lt (suc n) (10 ^ 9) h in
     and-from _ _ (shown (suc n) (omega arith) .no-zero) (grind (arith, tells))
 
+signed-back : (z : ℤ) → signed-value (signed-plain z) ≡ z
+unfolding signed-plain
+signed-back (pos n) = refl
+signed-back (negsuc n) = refl
+
 found-at : (m : Bool) (v : ℕ) → T (text-fits (plain-text m v)) → not (m && eqb v 0) ≡ true → T (signed-fits (cond m (negℤ (pos v)) (pos v))) × (text-columns (plain-text m v) ≡ signed-columns (cond m (negℤ (pos v)) (pos v)))
 unfolding signed-plain
 found-at false v room e =
@@ -186,6 +203,7 @@ signed-sort = record {
   room = signed-room;
   columns = signed-same;
   sorted = signed-sorted;
+  back = signed-back;
   found = signed-found;
 }
 
@@ -215,6 +233,7 @@ date-sort = record {
   room = date-room;
   columns = λ n h. date-same n;
   sorted = λ n h. refl;
+  back = λ n. refl;
   found = date-found;
 }
 
@@ -242,5 +261,6 @@ blank-sort = record {
   room = λ _ h. tt;
   columns = λ _ h. blank-same 0;
   sorted = λ _ h. refl;
+  back = λ _. refl;
   found = λ t room e. (tt, blank-found t e);
 }

@@ -5,3 +5,4 @@ pub mod Scanning
 pub mod Decimal
 pub mod Exits
 pub mod Holding
+pub mod KindLaws

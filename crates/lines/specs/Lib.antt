@@ -1,0 +1,5 @@
+pub mod Tags
+pub mod Parts
+pub mod Records
+pub mod Whole
+pub mod Reading

@@ -1,0 +1,17 @@
+// The lines that reach the engine: records, and the one way in which each is written.
+mod fault;
+mod field;
+mod parts;
+mod read;
+mod record;
+mod tag;
+
+pub use fault::Fault;
+pub use record::DegreeDays;
+pub use record::Enrolment;
+pub use record::Factors;
+pub use record::GateDay;
+pub use record::IntervalEnergy;
+pub use record::Opening;
+pub use record::Reading;
+pub use record::Record;
