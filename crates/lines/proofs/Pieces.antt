@@ -67,7 +67,7 @@ pub data Standing (line : List ℕ) : ℕ → List Cell → Type 0 where
   next : {n : ℕ} {k : Kind} {x : Held k} {cs : List Cell} → Stands (part k n line) x → Standing line (n + width k) cs → Standing line n (cell k x ∷ cs)
 
 -- how many columns they take
-abbrev widths : List Cell → ℕ
+abbrev pub widths : List Cell → ℕ
 widths [] = 0
 widths (c ∷ cs) = width (c .kind) + widths cs
 

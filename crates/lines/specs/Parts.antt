@@ -9,9 +9,11 @@ use Rattle.std.specs.declared.result.Result.the-variants.{Ok, Err}
 use Rattle.refusals.specs.Numbers.{number-of}
 use Rattle.refusals.specs.declared.refusal.Refusal.{Refusal}
 use Rattle.fields.specs.Kinds.{Kind, Held, Holds, width, fits, columns, blank, no-letter}
+use Rattle.lines.specs.Tags.{tag-bytes}
 use Rattle.lines.specs.declared.fault.Fault.{Fault}
 use Rattle.lines.specs.declared.field.Field.{Field}
 use Rattle.lines.specs.declared.field.Field.the-variants.{First, Second, Third, Fourth}
+use Rattle.lines.specs.declared.tag.Tag.{Tag}
 
 -- how many bytes of the line stand before a field
 abbrev pub start : Field → ℕ
@@ -53,6 +55,11 @@ pub record Stands (p : Part) (x : Held (p .kind)) : Type 0 where
 pub record Malformed (ps : List Part) (f : Fault) : Type 0 where
   pub refusal : number-of (f .refusal) ≡ 1
   pub column : Leftmost ps (f .column)
+
+-- the tag is read, or it is no tag and column 1 is at fault
+abbrev pub TagRead : List ℕ → Result Tag Fault → Type 0
+TagRead line (Ok t) = take 4 line ≡ tag-bytes t
+TagRead line (Err f) = (number-of (f .refusal) ≡ 1) × (f .column ≡ 1) × ((t : Tag) → take 4 line ≡ tag-bytes t → ⊥)
 
 -- a part is read as the value that stands in it, or is malformed
 abbrev pub PartRead : (p : Part) → Result (Held (p .kind)) Fault → Type 0

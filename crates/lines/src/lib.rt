@@ -5,8 +5,10 @@ mod parts;
 mod read;
 mod record;
 mod tag;
+mod whole;
 
 pub use fault::Fault;
+pub use read::read_line;
 pub use record::DegreeDays;
 pub use record::Enrolment;
 pub use record::Factors;

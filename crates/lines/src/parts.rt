@@ -1,8 +1,9 @@
 ghost use mathlib.Core.Path.{_≡_};
 ghost use Rattle.fields.specs.Kinds.{number, signed, date, blank, reading-type, no-letter};
-ghost use Rattle.lines.specs.Parts.{part, start, fault-at, PartRead, RestRead};
+ghost use Rattle.lines.specs.Parts.{part, start, fault-at, PartRead, RestRead, TagRead};
 use super::fault::Fault;
 use super::field::Field;
+use super::tag::Tag;
 use fields::ReadingType;
 use refusals::Refusal;
 
@@ -14,6 +15,13 @@ fn placed<X: Drop>(column: u8, read: Result<X, Refusal>) -> Result<X, Fault>
         Ok(value) => Ok(value),
         Err(refusal) => Err(Fault { refusal, column }),
     }
+}
+
+// The tag of the line.
+pub(crate) fn tag_of(line: &[u8; 46]) -> Result<Tag, Fault>
+    ensures { λ r. ⌜ TagRead (now (line .entry)) r ⌝ }
+{
+    placed(1, Tag::read(&line[0..4]))
 }
 
 // The number in a field of the line.

@@ -1,7 +1,10 @@
 ghost use mathlib.Core.Path.{_≡_};
 ghost use mathlib.Core.Bool.{true};
+ghost use lib.Dec.{T};
 ghost use lib.ListN.{take};
-ghost use Rattle.lines.specs.Reading.{RecordRead};
+ghost use Rattle.std.specs.declared.result.Result.the-variants.{Ok};
+ghost use Rattle.lines.specs.Reading.{RecordRead, LineRead};
+ghost use Rattle.lines.specs.Records.{record-fits, written};
 ghost use Rattle.lines.specs.Tags.{tag-bytes};
 ghost use Rattle.lines.specs.Whole.{whole};
 ghost use Rattle.lines.specs.declared.tag.Tag.the-variants.{Open, Fact, Enrl, Gate, Intv, Degd, Read};
@@ -13,6 +16,7 @@ use super::parts::number;
 use super::parts::reading_type;
 use super::parts::rest_unused;
 use super::parts::signed;
+use super::parts::tag_of;
 use super::record::DegreeDays;
 use super::record::Enrolment;
 use super::record::Factors;
@@ -21,6 +25,8 @@ use super::record::IntervalEnergy;
 use super::record::Opening;
 use super::record::Reading;
 use super::record::Record;
+use super::tag::Tag;
+use super::whole::whole_line;
 
 // A line with the tag OPEN.
 fn opening(line: &[u8; 46]) -> Result<Record, Fault>
@@ -105,4 +111,30 @@ fn reading(line: &[u8; 46]) -> Result<Record, Fault>
     let energy = signed(line, Field::Fourth)?;
     let kind = reading_type(line)?;
     Ok(Record::Reading(Reading { point, start, end, energy, reading_type: kind }))
+}
+
+// The record of a line with this tag.
+fn record_of(tag: Tag, line: &[u8; 46]) -> Result<Record, Fault>
+    requires { ⌜ whole (now line) ≡ true ⌝ ∗ ⌜ take 4 (now line) ≡ tag-bytes tag ⌝ }
+    ensures { λ r. ⌜ RecordRead tag (now (line .entry)) r ⌝ }
+{
+    match tag {
+        Tag::Open => opening(line),
+        Tag::Fact => factors(line),
+        Tag::Enrl => enrolment(line),
+        Tag::Gate => gate_day(line),
+        Tag::Intv => interval_energy(line),
+        Tag::Degd => degree_days(line),
+        Tag::Read => reading(line),
+    }
+}
+
+// The record that the bytes of a line say, its line feed among them.
+pub fn read_line(bytes: &[u8]) -> Result<Record, Fault>
+    ensures read { λ r. ⌜ LineRead (now (bytes .entry)) r ⌝ }
+    ensures reads_back { λ r. ⌜ ((x : Record) → T (record-fits x) → now (bytes .entry) ≡ written x → r ≡ Ok x) ⌝ }
+{
+    let line = whole_line(bytes)?;
+    let tag = tag_of(line)?;
+    record_of(tag, line)
 }
