@@ -1,7 +1,9 @@
 // The lines that reach the engine: records, and the one way in which each is written.
 mod fault;
 mod field;
+mod layout;
 mod parts;
+mod write;
 mod read;
 mod record;
 mod tag;
@@ -17,3 +19,4 @@ pub use record::IntervalEnergy;
 pub use record::Opening;
 pub use record::Reading;
 pub use record::Record;
+pub use write::write_record;

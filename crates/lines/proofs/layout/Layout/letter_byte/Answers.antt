@@ -1,0 +1,9 @@
+use mathlib.Core.Path.{_≡_, sym, ap, _∙_}
+use mathlib.Core.List.{[], _∷_}
+use Rattle.fields.specs.Kinds.{columns}
+use Rattle.lines.specs.Layouts.{letter-cell}
+use Rattle.lines.proofs.layout.Layout.letter_byte.Needs as need
+
+pub returns-in-Some : need.returns-in-Some
+returns-in-Some c =
+    ap (λ b. b ∷ []) (c .letter .ensures) ∙ ap (λ l. columns (letter-cell l .kind) (letter-cell l .value)) (sym (c .in-Some .is))
