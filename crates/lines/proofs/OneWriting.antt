@@ -20,7 +20,7 @@ use Rattle.fields.specs.declared.letter.ReadingType.{ReadingType}
 use Rattle.fields.specs.declared.letter.ReadingType.the-variants.{Actual}
 use Rattle.fields.proofs.KindLaws.{length-columns, told}
 use Rattle.lines.specs.Parts.{Part, part, parts, Good, Leftmost, Stands, here, further}
-use Rattle.lines.specs.Reading.{LineRead, RecordRead, At-fault, wrong-length, unknown-tag, wrong-part}
+use Rattle.lines.specs.Reading.{LineRead, RecordRead, WrittenAgain, At-fault, wrong-length, unknown-tag, wrong-part}
 use Rattle.lines.specs.Records.{Cell, cell, cells, unused, tag-of, all-fit, line-of, record-fits, written}
 use Rattle.lines.specs.Tags.{tag-bytes, layout}
 use Rattle.lines.specs.Whole.{whole, fed}
@@ -239,3 +239,7 @@ line-same t line (Err f) w tag p = (p .refusal, wrong-part t w tag (p .column))
 pub line-read : (bytes : List ℕ) (t : Tag) (line : List ℕ) (r : Result Record Fault) → (line ≡ bytes) × (whole bytes ≡ true) → take 4 line ≡ tag-bytes t → RecordRead t line r → LineRead bytes r
 line-read bytes t line r (same, w) tag p =
     subst (λ b. LineRead b r) same (line-same t line r (subst (λ b. whole b ≡ true) (sym same) w) tag p)
+
+pub again-refused : (bytes : List ℕ) (r : Result (Record × List ℕ) Fault) (f : Fault) → (isErr r ≡ true) × ErrBy r (λ y. y ≡ f) → LineRead bytes (Err f) → WrittenAgain bytes r
+again-refused bytes (Ok x) f p q = absurd (p .1)
+again-refused bytes (Err y) f p q = subst (λ g. WrittenAgain bytes (Err g)) (sym (p .1)) q

@@ -31,3 +31,8 @@ pub data At-fault (line : List ℕ) (c : ℕ) : Type 0 where
 abbrev pub LineRead : List ℕ → Result Record Fault → Type 0
 LineRead line (Ok r) = T (record-fits r) × (line ≡ written r)
 LineRead line (Err f) = (number-of (f .refusal) ≡ 1) × At-fault line (f .column)
+
+-- a line that is read is written again with the same bytes
+abbrev pub WrittenAgain : List ℕ → Result (Record × List ℕ) Fault → Type 0
+WrittenAgain line (Ok p) = T (record-fits (p .0)) × (line ≡ written (p .0)) × (p .1 ≡ line)
+WrittenAgain line (Err f) = (number-of (f .refusal) ≡ 1) × At-fault line (f .column)

@@ -37,7 +37,11 @@ fn opening(line: &[u8; 46]) -> Result<Record, Fault>
     let days = number(line, Field::Second)?;
     let unaccounted = number(line, Field::Third)?;
     rest_unused(line)?;
-    Ok(Record::Opening(Opening { first_date, days, unaccounted }))
+    Ok(Record::Opening(Opening {
+        first_date,
+        days,
+        unaccounted,
+    }))
 }
 
 // A line with the tag FACT.
@@ -49,7 +53,11 @@ fn factors(line: &[u8; 46]) -> Result<Record, Fault>
     let base_load = number(line, Field::Second)?;
     let sensitivity = number(line, Field::Third)?;
     rest_unused(line)?;
-    Ok(Record::Factors(Factors { point, base_load, sensitivity }))
+    Ok(Record::Factors(Factors {
+        point,
+        base_load,
+        sensitivity,
+    }))
 }
 
 // A line with the tag ENRL.
@@ -61,7 +69,11 @@ fn enrolment(line: &[u8; 46]) -> Result<Record, Fault>
     let retailer = number(line, Field::Second)?;
     let start = date(line, Field::Third)?;
     rest_unused(line)?;
-    Ok(Record::Enrolment(Enrolment { point, retailer, start }))
+    Ok(Record::Enrolment(Enrolment {
+        point,
+        retailer,
+        start,
+    }))
 }
 
 // A line with the tag GATE.
@@ -73,7 +85,11 @@ fn gate_day(line: &[u8; 46]) -> Result<Record, Fault>
     let energy_in = number(line, Field::Second)?;
     let energy_out = number(line, Field::Third)?;
     rest_unused(line)?;
-    Ok(Record::GateDay(GateDay { date: day, energy_in, energy_out }))
+    Ok(Record::GateDay(GateDay {
+        date: day,
+        energy_in,
+        energy_out,
+    }))
 }
 
 // A line with the tag INTV.
@@ -85,7 +101,11 @@ fn interval_energy(line: &[u8; 46]) -> Result<Record, Fault>
     let meter = number(line, Field::Second)?;
     let energy = number(line, Field::Third)?;
     rest_unused(line)?;
-    Ok(Record::IntervalEnergy(IntervalEnergy { date: day, meter, energy }))
+    Ok(Record::IntervalEnergy(IntervalEnergy {
+        date: day,
+        meter,
+        energy,
+    }))
 }
 
 // A line with the tag DEGD.
@@ -110,7 +130,13 @@ fn reading(line: &[u8; 46]) -> Result<Record, Fault>
     let end = date(line, Field::Third)?;
     let energy = signed(line, Field::Fourth)?;
     let kind = reading_type(line)?;
-    Ok(Record::Reading(Reading { point, start, end, energy, reading_type: kind }))
+    Ok(Record::Reading(Reading {
+        point,
+        start,
+        end,
+        energy,
+        reading_type: kind,
+    }))
 }
 
 // The record of a line with this tag.
