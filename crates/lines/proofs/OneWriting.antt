@@ -21,14 +21,14 @@ use Rattle.fields.specs.declared.letter.ReadingType.the-variants.{Actual}
 use Rattle.fields.proofs.KindLaws.{length-columns, told}
 use Rattle.lines.specs.Parts.{Part, part, parts, Good, Leftmost, Stands, here, further}
 use Rattle.lines.specs.Reading.{LineRead, RecordRead, WrittenAgain, At-fault, wrong-length, unknown-tag, wrong-part}
-use Rattle.lines.specs.Records.{Cell, cell, cells, unused, tag-of, all-fit, line-of, record-fits, written}
-use Rattle.lines.specs.Tags.{tag-bytes, layout}
+use Rattle.records.specs.Records.{Cell, cell, cells, unused, tag-of, all-fit, line-of, record-fits, written}
+use Rattle.records.specs.Tags.{tag-bytes, layout}
 use Rattle.lines.specs.Whole.{whole, fed}
 use Rattle.lines.specs.declared.fault.Fault.{Fault}
-use Rattle.lines.specs.declared.record.Record.{Record}
-use Rattle.lines.specs.declared.record.Record.the-variants as of
-use Rattle.lines.specs.declared.tag.Tag.{Tag}
-use Rattle.lines.specs.declared.tag.Tag.the-variants.{Open, Fact, Enrl, Gate, Intv, Degd, Read}
+use Rattle.records.specs.declared.record.Record.{Record}
+use Rattle.records.specs.declared.record.Record.the-variants as of
+use Rattle.records.specs.declared.tag.Tag.{Tag}
+use Rattle.records.specs.declared.tag.Tag.the-variants.{Open, Fact, Enrl, Gate, Intv, Degd, Read}
 use Rattle.lines.proofs.Pieces.{Standing, none, next, widths}
 
 abbrev columns-of : Cell → List ℕ

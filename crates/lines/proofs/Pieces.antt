@@ -19,12 +19,12 @@ use Rattle.fields.specs.Kinds.{Kind, Held, width, fits, columns, blank, no-lett
 use Rattle.fields.specs.Reads.{Reads}
 use Rattle.lines.specs.Parts.{Part, part, parts, Leftmost, Stands, Malformed, PartRead, RestRead, fault-at, here, further}
 use Rattle.lines.specs.Reading.{RecordRead}
-use Rattle.lines.specs.Records.{Cell, cell, all-fit, line-of}
-use Rattle.lines.specs.Tags.{tag-bytes, layout}
+use Rattle.records.specs.Records.{Cell, cell, all-fit, line-of}
+use Rattle.records.specs.Tags.{tag-bytes, layout}
 use Rattle.lines.specs.Whole.{whole, fed}
 use Rattle.lines.specs.declared.fault.Fault.{Fault}
-use Rattle.lines.specs.declared.record.Record.{Record}
-use Rattle.lines.specs.declared.tag.Tag.{Tag}
+use Rattle.records.specs.declared.record.Record.{Record}
+use Rattle.records.specs.declared.tag.Tag.{Tag}
 
 first : {p : Part} {ps : List Part} {c : ℕ} → Leftmost (p ∷ []) c → Leftmost (p ∷ ps) c
 first (here e bad) = here e bad

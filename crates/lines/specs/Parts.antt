@@ -9,11 +9,11 @@ use Rattle.std.specs.declared.result.Result.the-variants.{Ok, Err}
 use Rattle.refusals.specs.Numbers.{number-of}
 use Rattle.refusals.specs.declared.refusal.Refusal.{Refusal}
 use Rattle.fields.specs.Kinds.{Kind, Held, Holds, width, fits, columns, blank, no-letter}
-use Rattle.lines.specs.Tags.{tag-bytes}
+use Rattle.records.specs.Tags.{tag-bytes}
 use Rattle.lines.specs.declared.fault.Fault.{Fault}
 use Rattle.lines.specs.declared.field.Field.{Field}
 use Rattle.lines.specs.declared.field.Field.the-variants.{First, Second, Third, Fourth}
-use Rattle.lines.specs.declared.tag.Tag.{Tag}
+use Rattle.records.specs.declared.tag.Tag.{Tag}
 
 -- how many bytes of the line stand before a field
 abbrev pub start : Field → ℕ

@@ -9,12 +9,12 @@ use Rattle.std.specs.declared.result.Result.{Result}
 use Rattle.std.specs.declared.result.Result.the-variants.{Ok, Err}
 use Rattle.refusals.specs.Numbers.{number-of}
 use Rattle.lines.specs.Parts.{parts, Leftmost, Malformed}
-use Rattle.lines.specs.Records.{record-fits, written}
-use Rattle.lines.specs.Tags.{tag-bytes, layout}
+use Rattle.records.specs.Records.{record-fits, written}
+use Rattle.records.specs.Tags.{tag-bytes, layout}
 use Rattle.lines.specs.Whole.{whole, past-end}
 use Rattle.lines.specs.declared.fault.Fault.{Fault}
-use Rattle.lines.specs.declared.record.Record.{Record}
-use Rattle.lines.specs.declared.tag.Tag.{Tag}
+use Rattle.records.specs.declared.record.Record.{Record}
+use Rattle.records.specs.declared.tag.Tag.{Tag}
 
 -- a line of this tag is read as the record that it is the writing of, or its leftmost part at fault is named
 abbrev pub RecordRead : Tag → List ℕ → Result Record Fault → Type 0

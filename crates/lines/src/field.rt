@@ -5,7 +5,7 @@ ghost use Rattle.lines.specs.Parts.{start};
 
 // One of the four fields of ten columns.
 #[derive(Clone, Copy)]
-pub(crate) enum Field {
+pub enum Field {
     First,
     Second,
     Third,
@@ -14,7 +14,7 @@ pub(crate) enum Field {
 
 impl Field {
     // The first column of a field, counted from 1.
-    pub(crate) fn column(self) -> u8
+    pub fn column(self) -> u8
         ensures { λ r. ⌜ r ≡ start self + 1 ⌝ }
     {
         match self {

@@ -3,8 +3,8 @@ ghost use Rattle.fields.specs.Kinds.{number, signed, date, blank, reading-type,
 ghost use Rattle.lines.specs.Parts.{part, start, fault-at, PartRead, RestRead, TagRead};
 use super::fault::Fault;
 use super::field::Field;
-use super::tag::Tag;
 use fields::ReadingType;
+use records::Tag;
 use refusals::Refusal;
 
 // What was read at a column, or why not and where.

@@ -1,10 +1,10 @@
 ghost use Rattle.refusals.specs.Answers.{Answers};
 ghost use Rattle.lines.specs.Reading.{WrittenAgain};
-ghost use Rattle.lines.specs.Records.{record-fits};
+ghost use Rattle.records.specs.Records.{record-fits};
 use super::fault::Fault;
 use super::read::read_line;
-use super::record::Record;
-use super::write::write_record;
+use records::Record;
+use records::write_record;
 use refusals::Refusal;
 
 // Writes a record and reads what was written: the same record, where it fits its columns.

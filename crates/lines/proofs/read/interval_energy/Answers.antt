@@ -1,5 +1,5 @@
 use mathlib.Core.Path.{refl}
-use Rattle.lines.specs.declared.tag.Tag.the-variants.{Intv}
+use Rattle.records.specs.declared.tag.Tag.the-variants.{Intv}
 use Rattle.lines.proofs.Pieces.{at, past, refused, none, next, assembled}
 use Rattle.lines.proofs.read.interval_energy.Needs as need
 

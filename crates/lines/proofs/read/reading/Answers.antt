@@ -5,7 +5,7 @@ use mir.Val.{SFits}
 use Rattle.std.proofs.shelf.Signed.{toZ-ofZ}
 use Rattle.fields.specs.Kinds.{signed}
 use Rattle.lines.specs.Parts.{part, Stands}
-use Rattle.lines.specs.declared.tag.Tag.the-variants.{Read}
+use Rattle.records.specs.declared.tag.Tag.the-variants.{Read}
 use Rattle.lines.proofs.Pieces.{at, past, refused, none, next, assembled}
 use Rattle.lines.proofs.read.reading.Needs as need
 

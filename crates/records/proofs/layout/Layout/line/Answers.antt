@@ -1,5 +1,5 @@
-use Rattle.lines.proofs.Joining.{line-written, fourth-unfit}
-use Rattle.lines.proofs.layout.Layout.line.Needs as need
+use Rattle.records.proofs.Joining.{line-written, fourth-unfit}
+use Rattle.records.proofs.layout.Layout.line.Needs as need
 
 pub returns-in-Break-fourth : need.returns-in-Break-fourth
 returns-in-Break-fourth c =

@@ -1,6 +1,6 @@
 use borrow.Author.Needs.{needs}
 use Rattle.std.proofs.shelf.Equals.{text-from-reads}
-use Rattle.lines.proofs.tag.Tag.read.Needs as need
+use Rattle.records.proofs.tag.Tag.read.Needs as need
 
 pub returns-in-79 : need.returns-in-79
 returns-in-79 c = (tt, text-from-reads _ _ (search needs) (search needs))

@@ -16,12 +16,12 @@ use Rattle.fields.specs.Kinds.{fits, columns}
 use Rattle.fields.specs.declared.letter.ReadingType.{ReadingType}
 use Rattle.std.specs.declared.option.Option.{Option}
 use Rattle.std.specs.declared.option.Option.the-variants.{Some, None}
-use Rattle.lines.specs.Layouts.{cell-of, letter-cell, layout-cells}
-use Rattle.lines.specs.Records.{Cell, all-fit, line-of, record-fits, written}
-use Rattle.lines.specs.Tags.{tag-bytes}
-use Rattle.lines.specs.declared.layout.Layout.{Layout}
-use Rattle.lines.specs.Writing.{Writes}
-use Rattle.lines.specs.declared.record.Record.{Record}
+use Rattle.records.specs.Layouts.{cell-of, letter-cell, layout-cells}
+use Rattle.records.specs.Records.{Cell, all-fit, line-of, record-fits, written}
+use Rattle.records.specs.Tags.{tag-bytes}
+use Rattle.records.specs.declared.layout.Layout.{Layout}
+use Rattle.records.specs.Writing.{Writes}
+use Rattle.records.specs.declared.record.Record.{Record}
 
 -- one more part behind what is there
 pub grown : (l m p part : List ℕ) (at n : ℕ) → take at l ≡ p → at + length part ≡ n → take (at + length part) m ≡ take at l ++ part → take n m ≡ p ++ part

@@ -6,8 +6,8 @@ use Rattle.std.proofs.shelf.Signed.{toZ-ofZ}
 use Rattle.refusals.specs.Answers.{Answers}
 use Rattle.fields.specs.Columns.{signed-fits, signed-columns}
 use Rattle.fields.specs.Kinds.{fits, columns}
-use Rattle.lines.specs.Layouts.{cell-of}
-use Rattle.lines.proofs.layout.Content.columns.Needs as need
+use Rattle.records.specs.Layouts.{cell-of}
+use Rattle.records.proofs.layout.Content.columns.Needs as need
 
 pub returns-in-Number : need.returns-in-Number
 returns-in-Number c =

@@ -1,8 +1,8 @@
 use mathlib.Core.Path.{_≡_, sym, ap, _∙_}
 use mathlib.Core.List.{[], _∷_}
 use Rattle.fields.specs.Kinds.{columns}
-use Rattle.lines.specs.Layouts.{letter-cell}
-use Rattle.lines.proofs.layout.Layout.letter_byte.Needs as need
+use Rattle.records.specs.Layouts.{letter-cell}
+use Rattle.records.proofs.layout.Layout.letter_byte.Needs as need
 
 pub returns-in-Some : need.returns-in-Some
 returns-in-Some c =

@@ -4,10 +4,10 @@ use Rattle.std.specs.declared.option.Option.{Option}
 use Rattle.std.specs.declared.option.Option.the-variants.{Some, None}
 use Rattle.fields.specs.Kinds.{number, signed, date, reading-type}
 use Rattle.fields.specs.declared.letter.ReadingType.{ReadingType}
-use Rattle.lines.specs.Records.{Cell, cell, unused, letterless}
-use Rattle.lines.specs.declared.layout.Content.{Content}
-use Rattle.lines.specs.declared.layout.Content.the-variants.{Number, Signed, Date, Blank}
-use Rattle.lines.specs.declared.layout.Layout.{Layout}
+use Rattle.records.specs.Records.{Cell, cell, unused, letterless}
+use Rattle.records.specs.declared.layout.Content.{Content}
+use Rattle.records.specs.declared.layout.Content.the-variants.{Number, Signed, Date, Blank}
+use Rattle.records.specs.declared.layout.Layout.{Layout}
 
 abbrev pub cell-of : Content → Cell
 cell-of (Number n) = cell number n

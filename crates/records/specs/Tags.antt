@@ -3,8 +3,8 @@ use mathlib.Core.List.{List, [], _∷_}
 use Prim.Native.Nat.{ℕ}
 use lib.Chars.{codes}
 use Rattle.fields.specs.Kinds.{Kind, number, signed, date, blank, reading-type, no-letter}
-use Rattle.lines.specs.declared.tag.Tag.{Tag}
-use Rattle.lines.specs.declared.tag.Tag.the-variants.{Open, Fact, Enrl, Gate, Intv, Degd, Read}
+use Rattle.records.specs.declared.tag.Tag.{Tag}
+use Rattle.records.specs.declared.tag.Tag.the-variants.{Open, Fact, Enrl, Gate, Intv, Degd, Read}
 
 -- the four capitals
 abbrev pub tag-bytes : Tag → List ℕ

@@ -1,5 +1,5 @@
-use Rattle.lines.proofs.Joining.{unfit-unwritten}
-use Rattle.lines.proofs.write.write_record.Needs as need
+use Rattle.records.proofs.Joining.{unfit-unwritten}
+use Rattle.records.proofs.write.write_record.Needs as need
 
 pub returns-in-Break-line : need.returns-in-Break-line
 returns-in-Break-line c =

@@ -4,8 +4,8 @@ use Prim.Native.Nat.{_+_}
 use borrow.Author.Needs.{needs}
 use lib.ListN.{length, take}
 use Rattle.std.proofs.shelf.Lists.{take-all}
-use Rattle.lines.proofs.Joining.{grown, grouped}
-use Rattle.lines.proofs.write.joined.Needs as need
+use Rattle.records.proofs.Joining.{grown, grouped}
+use Rattle.records.proofs.write.joined.Needs as need
 
 pub returns : need.returns
 returns c =

@@ -9,8 +9,8 @@ use Rattle.std.specs.declared.result.Result.{Result}
 use Rattle.std.specs.declared.result.Result.the-variants.{Ok, Err}
 use Rattle.refusals.specs.Numbers.{number-of}
 use Rattle.refusals.specs.declared.refusal.Refusal.{Refusal}
-use Rattle.lines.specs.Records.{record-fits, written}
-use Rattle.lines.specs.declared.record.Record.{Record}
+use Rattle.records.specs.Records.{record-fits, written}
+use Rattle.records.specs.declared.record.Record.{Record}
 
 -- the buffer held old and holds new: the record and the bytes beyond, or what it held.
 -- A record that does not fit its columns is refused as beyond limits, any other only where 46 bytes are wanting

@@ -4,18 +4,18 @@ use mathlib.Core.List.{List, [], _∷_, _++_}
 use Prim.Native.Nat.{ℕ}
 use Rattle.std.specs.shelf.Lists.{joined}
 use Rattle.fields.specs.Kinds.{Kind, Held, fits, columns, number, signed, date, blank, reading-type, no-letter}
-use Rattle.lines.specs.Tags.{tag-bytes}
-use Rattle.lines.specs.declared.record.DegreeDays.{DegreeDays}
-use Rattle.lines.specs.declared.record.Enrolment.{Enrolment}
-use Rattle.lines.specs.declared.record.Factors.{Factors}
-use Rattle.lines.specs.declared.record.GateDay.{GateDay}
-use Rattle.lines.specs.declared.record.IntervalEnergy.{IntervalEnergy}
-use Rattle.lines.specs.declared.record.Opening.{Opening}
-use Rattle.lines.specs.declared.record.Reading.{Reading}
-use Rattle.lines.specs.declared.record.Record.{Record}
-use Rattle.lines.specs.declared.record.Record.the-variants as of
-use Rattle.lines.specs.declared.tag.Tag.{Tag}
-use Rattle.lines.specs.declared.tag.Tag.the-variants.{Open, Fact, Enrl, Gate, Intv, Degd, Read}
+use Rattle.records.specs.Tags.{tag-bytes}
+use Rattle.records.specs.declared.record.DegreeDays.{DegreeDays}
+use Rattle.records.specs.declared.record.Enrolment.{Enrolment}
+use Rattle.records.specs.declared.record.Factors.{Factors}
+use Rattle.records.specs.declared.record.GateDay.{GateDay}
+use Rattle.records.specs.declared.record.IntervalEnergy.{IntervalEnergy}
+use Rattle.records.specs.declared.record.Opening.{Opening}
+use Rattle.records.specs.declared.record.Reading.{Reading}
+use Rattle.records.specs.declared.record.Record.{Record}
+use Rattle.records.specs.declared.record.Record.the-variants as of
+use Rattle.records.specs.declared.tag.Tag.{Tag}
+use Rattle.records.specs.declared.tag.Tag.the-variants.{Open, Fact, Enrl, Gate, Intv, Degd, Read}
 
 -- a value and the kind of part that holds it
 pub record Cell : Type 0 where

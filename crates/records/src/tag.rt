@@ -1,12 +1,12 @@
 ghost use mathlib.Core.Path.{_≡_};
 ghost use mathlib.Core.Bool.{true};
 ghost use Rattle.fields.specs.Reads.{Reads};
-ghost use Rattle.lines.specs.Tags.{tag-bytes};
+ghost use Rattle.records.specs.Tags.{tag-bytes};
 use refusals::Refusal;
 
 // The four capitals that a line begins with.
 #[derive(Clone, Copy)]
-pub(crate) enum Tag {
+pub enum Tag {
     Open,
     Fact,
     Enrl,
@@ -18,7 +18,7 @@ pub(crate) enum Tag {
 
 impl Tag {
     // The tag that the bytes are.
-    pub(crate) fn read(bytes: &[u8]) -> Result<Tag, Refusal>
+    pub fn read(bytes: &[u8]) -> Result<Tag, Refusal>
         ensures { λ r. ⌜ Reads (λ _. true) tag-bytes (now (bytes .entry)) r ⌝ }
     {
         match bytes {
