@@ -1,0 +1,3 @@
+pub mod Gregorian
+pub mod Digits
+pub mod Dates

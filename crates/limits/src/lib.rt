@@ -1,0 +1,9 @@
+// Whether the numbers of a record are within their limits, and its dates exist.
+mod check;
+mod dates;
+mod limits;
+mod numbers;
+mod passes;
+
+pub use check::check_limits;
+pub use limits::Limits;
