@@ -242,7 +242,7 @@ empty : ℕ → Text
 empty n = record { minus = false; digits = 0; value = n }
 
 blank-same : (n : ℕ) → blank-columns ≡ text-columns (empty n)
-unfolding blank-columns columns-of empty
+unfolding columns-of empty
 blank-same n = refl
 
 blank-found : (t : Text) → blank-text t ≡ true → text-columns t ≡ blank-columns

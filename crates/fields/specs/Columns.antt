@@ -31,7 +31,7 @@ unfoldable pub date-columns : ℕ → List ℕ
 date-columns n = right-aligned (digits-kept 8 n)
 
 -- an unused field: spaces
-unfoldable pub blank-columns : List ℕ
+abbrev pub blank-columns : List ℕ
 blank-columns = replicate 10 32
 
 -- the letter of each type of reading: A, S, E, C

@@ -99,11 +99,11 @@ impl Text {
     }
 
     // The text of a number with no leading zero.
-    pub(crate) fn plain(minus: bool, value: u64) -> Text
-        ensures { λ r. ⌜ r ≡ plain-text minus value ⌝ }
+    pub(crate) fn plain(negative: bool, value: u64) -> Text
+        ensures { λ r. ⌜ r ≡ plain-text negative value ⌝ }
     {
         Text {
-            minus,
+            minus: negative,
             digits: digit_count(value),
             value,
         }

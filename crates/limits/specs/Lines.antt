@@ -32,7 +32,11 @@ MalformedAt bytes n c = (n ≡ 1) × At-fault bytes c
 abbrev pub RefusedAt : List ℕ → Limits → ℕ → ℕ → Type 0
 RefusedAt bytes l n c = (x : Record) × T (record-fits x) × (bytes ≡ written x) × (verdict l x ≡ Some (n, c))
 
--- a line is answered by the record that it is the writing of, or by the line, the layer, the number and the column of its refusal
+-- bytes are answered by the record that they are the writing of, if it is within limits, or by the number and the column of their refusal
+abbrev pub Checked : List ℕ → Limits → Result Record Fault → Type 0
+Checked bytes l (Ok x) = T (record-fits x) × (bytes ≡ written x) × (verdict l x ≡ None)
+Checked bytes l (Err f) = MalformedAt bytes (number-of (f .refusal)) (f .column) ⊎ RefusedAt bytes l (number-of (f .refusal)) (f .column)
+
+-- a line is answered as its bytes are, a refusal with the line and the layer besides
 abbrev pub LineChecked : ℕ → List ℕ → Limits → Result Record LineFault → Type 0
-LineChecked line bytes l (Ok x) = T (record-fits x) × (bytes ≡ written x) × (verdict l x ≡ None)
-LineChecked line bytes l (Err f) = (f .line ≡ line) × (f .layer ≡ layer-of (f .refusal)) × (MalformedAt bytes (number-of (f .refusal)) (f .column) ⊎ RefusedAt bytes l (number-of (f .refusal)) (f .column))
+LineChecked line bytes l r = (answer : Result Record Fault) × Checked bytes l answer × (r ≡ placed-on line answer)

@@ -1,5 +1,5 @@
 ghost use mathlib.Core.Path.{_≡_};
-ghost use Rattle.limits.specs.Lines.{placed-on, LineChecked};
+ghost use Rattle.limits.specs.Lines.{placed-on, Checked, LineChecked};
 use super::check::check_limits;
 use super::limits::Limits;
 use lines::Fault;
@@ -32,11 +32,18 @@ pub fn on_line<X: Drop>(line: u64, answer: Result<X, Fault>) -> Result<X, LineFa
     }
 }
 
-// The record that a line says, its line feed among its bytes, where it is well formed and within limits.
+// The record that the bytes of a line say, where they are well formed and it is within limits.
+fn checked(bytes: &[u8], limits: Limits) -> Result<Record, Fault>
+    ensures { λ r. ⌜ Checked (now (bytes .entry)) limits r ⌝ }
+{
+    let record = read_line(bytes)?;
+    check_limits(&record, limits)?;
+    Ok(record)
+}
+
+// The record that the line of this number says, where it is well formed and within limits.
 pub fn check_line(line: u64, bytes: &[u8], limits: Limits) -> Result<Record, LineFault>
     ensures { λ r. ⌜ LineChecked line (now (bytes .entry)) limits r ⌝ }
 {
-    let record = on_line(line, read_line(bytes))?;
-    on_line(line, check_limits(&record, limits))?;
-    Ok(record)
+    on_line(line, checked(bytes, limits))
 }

@@ -34,7 +34,10 @@ fn main(rt: LibcRuntime) -> io::Result<()> {
                 let layer = fault.layer.number();
                 let refusal = fault.refusal.number();
                 let column = fault.column;
-                println!(rt, "line {number}: layer {layer}, refusal {refusal}, column {column}")?;
+                println!(
+                    rt,
+                    "line {number}: layer {layer}, refusal {refusal}, column {column}"
+                )?;
             }
         }
     }

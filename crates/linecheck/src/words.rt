@@ -29,25 +29,37 @@ pub impl fmt::Display for Words as WordsDisplay {
                 let first_date = opening.first_date;
                 let days = opening.days;
                 let unaccounted = opening.unaccounted;
-                write!(f, "opening: from {first_date}, {days} days, {unaccounted} ten-thousandths unaccounted for")
+                write!(
+                    f,
+                    "opening: from {first_date}, {days} days, {unaccounted} ten-thousandths unaccounted for"
+                )
             }
             Record::Factors(factors) => {
                 let point = factors.point;
                 let base_load = factors.base_load;
                 let sensitivity = factors.sensitivity;
-                write!(f, "factors: point {point}, base load {base_load} kJ a day, sensitivity {sensitivity} kJ a degree day")
+                write!(
+                    f,
+                    "factors: point {point}, base load {base_load} kJ a day, sensitivity {sensitivity} kJ a degree day"
+                )
             }
             Record::Enrolment(enrolment) => {
                 let point = enrolment.point;
                 let retailer = enrolment.retailer;
                 let start = enrolment.start;
-                write!(f, "enrolment: point {point} with retailer {retailer} from {start}")
+                write!(
+                    f,
+                    "enrolment: point {point} with retailer {retailer} from {start}"
+                )
             }
             Record::GateDay(gate) => {
                 let date = gate.date;
                 let energy_in = gate.energy_in;
                 let energy_out = gate.energy_out;
-                write!(f, "gate day: {date}, {energy_in} MJ in, {energy_out} MJ out")
+                write!(
+                    f,
+                    "gate day: {date}, {energy_in} MJ in, {energy_out} MJ out"
+                )
             }
             Record::IntervalEnergy(interval) => {
                 let date = interval.date;
@@ -66,7 +78,10 @@ pub impl fmt::Display for Words as WordsDisplay {
                 let end = reading.end;
                 let energy = reading.energy;
                 let reading_type = TypeWord(reading.reading_type);
-                write!(f, "reading: point {point} from {start} to before {end}, {energy} MJ, {reading_type}")
+                write!(
+                    f,
+                    "reading: point {point} from {start} to before {end}, {energy} MJ, {reading_type}"
+                )
             }
         }
     }
