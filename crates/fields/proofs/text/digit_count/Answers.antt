@@ -1,0 +1,18 @@
+use mathlib.Core.Path.{_≡_, ap, _∙_}
+use Prim.Native.Nat.{_+_, _/_, _<_, _^_}
+use native.Mathlib.Omega.{arith}
+use lib.ListN.{length}
+use Rattle.std.specs.Written.{decimal}
+use Rattle.std.proofs.shelf.Decimals.{decimal-some, length-decimal-le}
+use Rattle.fields.proofs.Decimal.{length-more, length-one}
+use Rattle.fields.proofs.text.digit_count.Needs as need
+
+pub add-digits : need.add-digits
+add-digits c =
+    omega (arith, length-decimal-le 20 (c .args .value) (omega arith) (omega arith) (omega arith))
+
+pub loop-rest-again : need.loop-rest-again
+loop-rest-again c = (omega (arith, length-more (c .loop-rest .rest) (omega arith) (omega arith)), omega arith)
+
+pub returns : need.returns
+returns c = omega (arith, length-one (c .loop-rest .rest) (omega arith))

@@ -1,0 +1,4 @@
+pub mod Columns
+pub mod Kinds
+pub mod Reads
+pub mod Texts

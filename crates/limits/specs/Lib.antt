@@ -1,0 +1,4 @@
+pub mod Numbers
+pub mod Dates
+pub mod Judging
+pub mod Lines

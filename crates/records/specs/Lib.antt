@@ -1,0 +1,4 @@
+pub mod Tags
+pub mod Records
+pub mod Layouts
+pub mod Writing
