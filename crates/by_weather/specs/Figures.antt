@@ -1,10 +1,9 @@
 -- What the weather estimator means.
-use mathlib.Core.Bool.{cond, _&&_}
-use mathlib.Core.List.{List}
+use mathlib.Core.Bool.{cond}
 use Prim.Native.Nat.{ℕ, _-_}
 use lib.ListN.{getD}
 use Rattle.std.specs.declared.option.Option.{Option}
-use Rattle.std.specs.declared.option.Option.the-variants.{Some, None}
+use Rattle.std.specs.declared.option.Option.the-variants.{None}
 use Rattle.std.specs.Options.{mapped, flattened}
 use Rattle.estimators.specs.Limits.{point-within, day-within}
 use Rattle.estimators.specs.Meaning.{Meaning, weather-within}

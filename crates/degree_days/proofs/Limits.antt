@@ -6,7 +6,6 @@ use native.Mathlib.Nat.{mul-le-mul}
 use native.Mathlib.Omega.{arith}
 use lib.IntN.{ℤ, pos, negsuc}
 use lib.Signed.{_≤ℤ_, leZ, leZ-yes}
-use lib.Dec.{T}
 use Rattle.std.proofs.shelf.Tests.{and-parts}
 use Rattle.degree_days.specs.Counts.{temperature-within}
 

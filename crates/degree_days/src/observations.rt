@@ -25,6 +25,14 @@ const LAST_DAY_OF_YEAR: u32 = 366;
 // Eight times 18 degrees, in tenths: a day is cold by what its temperatures stay below that.
 const THRESHOLD: i32 = 1440;
 
+// What a tenth of a degree of coldness, the same with a knot of wind, and a tenth of an hour of sunshine come to, in
+// 1,600,000ths of a hundredth of a degree day.
+const COLDNESS_WEIGHT: u64 = 2_000_000;
+
+const WIND_WEIGHT: u64 = 2_869;
+
+const SUNSHINE_WEIGHT: u64 = 2_880_000;
+
 // What the weather stations observed on a day.
 #[derive(Clone, Copy)]
 pub struct Observations {
@@ -57,9 +65,9 @@ impl Observations {
             return Err(Refusal::BeyondLimits);
         }
         Ok(Terms {
-            temperature: 2_000_000 * coldness,
+            temperature: COLDNESS_WEIGHT * coldness,
             wind_chill: wind_chill(coldness, u64::from(wind)),
-            sunshine: 2_880_000 * u64::from(self.sunshine),
+            sunshine: SUNSHINE_WEIGHT * u64::from(self.sunshine),
             season: season_term(day_of_year),
         })
     }
@@ -137,5 +145,5 @@ fn wind_chill(coldness: u64, wind: u64) -> u64
     requires { ⌜ coldness ≤ 3040 ⌝ ∗ ⌜ wind ≤ 1600 ⌝ }
     ensures { λ r. ⌜ r ≡ 2869 * coldness * wind ⌝ ∗ ⌜ r ≤ 13954816000 ⌝ }
 {
-    2_869 * coldness * wind
+    WIND_WEIGHT * coldness * wind
 }

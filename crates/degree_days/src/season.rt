@@ -3,8 +3,9 @@ ghost use lib.IntN.{pos, negsuc, negℤ, _*ℤ_};
 ghost use lib.Signed.{_≤ℤ_};
 ghost use Rattle.std.specs.shelf.Lawful.{all-pass};
 ghost use lib.Dec.{T};
-ghost use Prim.Native.Nat.{_-_, _≤_};
+ghost use Prim.Native.Nat.{_≤_};
 ghost use Rattle.degree_days.specs.Season.{season, seasonal, moderate};
+use super::terms::HUNDREDTH;
 
 // The season term of each day of a year, in hundredths of a degree day: 200 at midwinter, day 200, and -200 half a year away.
 const SEASON: [i32; 366] = [
@@ -382,7 +383,7 @@ pub(crate) fn season_term(day_of_year: u32) -> i64
     ensures value { λ r. ⌜ r ≡ pos 1600000 *ℤ season «day_of_year» ⌝ }
     ensures bounds { λ r. ⌜ negℤ (pos 320000000) ≤ℤ r ⌝ ∗ ⌜ r ≤ℤ pos 320000000 ⌝ }
 {
-    1_600_000 * i64::from(season_of(day_of_year))
+    HUNDREDTH as i64 * i64::from(season_of(day_of_year))
 }
 
 // The season term of a day of the year, in hundredths of a degree day.

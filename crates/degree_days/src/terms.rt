@@ -5,7 +5,7 @@ ghost use lib.Signed.{_≤ℤ_};
 ghost use Rattle.degree_days.specs.Counts.{together, count-of, Small};
 
 // How many parts of a term make a hundredth of a degree day.
-const HUNDREDTH: u64 = 1_600_000;
+pub(crate) const HUNDREDTH: u64 = 1_600_000;
 
 // The four terms of a day's degree days, in 1,600,000ths of a hundredth of a degree day.
 #[derive(Clone, Copy)]

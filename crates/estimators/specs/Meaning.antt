@@ -1,10 +1,10 @@
 -- What an estimator means, and what entering weather does to it.
 use mathlib.Core.Path.{_≡_}
 use mathlib.Core.Bool.{Bool, false, _&&_}
-use Prim.Native.Nat.{ℕ, _≤_, min}
+use Prim.Native.Nat.{ℕ, _≤_}
 use Rattle.std.specs.declared.option.Option.{Option}
 use Rattle.std.specs.declared.option.Option.the-variants.{Some, None}
-use Rattle.std.specs.Options.{orOther, mapped}
+use Rattle.std.specs.Options.{orOther}
 use Rattle.estimators.specs.Limits.{greatest-figure, point-within, day-within, count-within}
 
 -- a figure or none for each point and day place

@@ -1,7 +1,6 @@
 ghost use mathlib.Core.Path.{_≡_};
 ghost use mathlib.Core.Bool.{cond, false};
 ghost use Prim.Native.Nat.{_-_};
-ghost use lib.Dec.{T};
 ghost use lib.ListN.{replicate, set};
 ghost use Rattle.std.specs.declared.option.Option.{Option};
 ghost use Rattle.refusals.specs.Answers.{Answers, AnswersBy};

@@ -1,5 +1,4 @@
 ghost use mathlib.Core.Path.{_≡_};
-ghost use Prim.Native.Nat.{_*_, _≤_};
 ghost use lib.Dec.{T};
 ghost use Rattle.hot_water.specs.Usage.{usage-within, hot-water-figure};
 use super::season::Season;

@@ -1,13 +1,12 @@
 -- The place of a date in its year, from its eight digits.
 use mathlib.Core.Path.{_≡_, refl, sym, ap, _∙_}
-use mathlib.Core.Bool.{Bool, true, false, cond, _&&_}
-use Prim.Native.Nat.{ℕ, _+_, _≤_}
+use mathlib.Core.Bool.{Bool, true, false, cond}
+use Prim.Native.Nat.{ℕ}
 use native.Mathlib.Omega.{arith}
 use lib.Dec.{T, leb, le→leb}
 use Rattle.std.specs.declared.result.Result.{Result}
 use Rattle.std.specs.declared.result.Result.the-variants.{Ok, Err}
 use Rattle.refusals.specs.Answers.{AnswersBy}
-use Rattle.calendar.specs.Gregorian.{day-of-year}
 use Rattle.calendar.specs.Dates.{digits-of, place-in-year}
 use Rattle.calendar.specs.declared.date.Date.{Date}
 use Rattle.calendar.proofs.Days.{dated}

@@ -9,7 +9,6 @@ use Rattle.std.specs.declared.result.Result.the-variants.{Ok, Err}
 use Rattle.calendar.specs.Gregorian.{day-of-year}
 use Rattle.calendar.specs.Digits.{year-shown, month-shown, day-shown}
 use Rattle.degree_days.specs.Counts.{terms-of, degree-days}
-use Rattle.weather_day.specs.Words.{first-fault}
 use Rattle.weather_day.specs.declared.reckoning.Reckoning.{Reckoning}
 use Rattle.weather_day.specs.declared.word.Word.{Word}
 

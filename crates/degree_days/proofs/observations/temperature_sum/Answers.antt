@@ -5,7 +5,7 @@ use borrow.Author.Needs.{needs}
 use lib.IntN.{pos, _+ℤ_}
 use lib.ListN.{getD}
 use mir.Syntax.{w32}
-use mir.Val.{SFits, toZ, ofZ}
+use mir.Val.{SFits}
 use Rattle.std.proofs.shelf.Signed.{ints, toZ-ofZ}
 use Rattle.degree_days.specs.Counts.{temperature-within}
 use Rattle.degree_days.proofs.Limits.{temperature-bounds}
