@@ -46,7 +46,7 @@ kept-tells (suc k) m n e =
     let r : digits-kept k m ≡ digits-kept k n = cc in
     let t = kept-tells k m n r in
     let ten : 0 < 10 = lit< tt in
-    rw (pow-succ', mod-mul, b, t, mod-mul)
+    rw (pow-succ', mod-mul m ten p, b, t, mod-mul n ten p)
 
 pub same-from-kept : (k m n : ℕ) → m < 10 ^ k → n < 10 ^ k → digits-kept k m ≡ digits-kept k n → m ≡ n
 same-from-kept k m n p q e = sym (mod-eq-of-lt p) ∙ kept-tells k m n e ∙ mod-eq-of-lt q

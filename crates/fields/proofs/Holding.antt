@@ -23,7 +23,7 @@ use Rattle.refusals.specs.declared.refusal.Refusal.{Refusal}
 use Rattle.refusals.specs.declared.refusal.Refusal.the-variants.{MalformedLine}
 use Rattle.fields.specs.Reads.{Reads}
 use Rattle.fields.specs.Columns.{right-aligned, digits-kept, number-columns, signed-columns, date-columns, blank-columns, number-fits, signed-fits, date-fits}
-use Rattle.fields.specs.Texts.{sign, columns-of, text-columns, text-fits, plain, plain-text, number-text, signed-text, signed-value, date-text, blank-text}
+use Rattle.fields.specs.Texts.{sign, columns-of, text-columns, text-fits, plain, plain-text, number-text, signed-text, signed-value, date-text, dated, blank-text}
 use Rattle.fields.specs.declared.text.Text.{Text}
 use Rattle.fields.proofs.Exits.{broken}
 use Rattle.fields.proofs.Placing.{parts-of-fit}
@@ -208,10 +208,7 @@ signed-sort = record {
 }
 
 -- a date
-abbrev pub dated : ℕ → Text
-dated n = record { minus = false; digits = 8; value = n }
-
-date-room : (n : ℕ) → T (date-fits n) → T (text-fits (dated n))
+pub date-room : (n : ℕ) → T (date-fits n) → T (text-fits (dated n))
 date-room n h = grind (arith, tells)
 
 pub date-same : (n : ℕ) → date-columns n ≡ text-columns (dated n)

@@ -31,7 +31,8 @@ pub length-columns : (t : Text) → T (text-fits t) → length (text-columns t) 
 unfolding columns-of
 length-columns t h =
     let p = parts-of-fit t h in
-    rw (length-append, length-replicate, length-signed) (omega arith)
+    let text : List ℕ = sign (t .minus) ++ digits-kept (t .digits) (t .value) in
+    rw (length-append (replicate (10 - length text) 32) text, length-replicate, length-signed) (omega arith)
 
 -- the first byte behind the spaces is no space, and a minus just where there is a sign
 pub no-space : (m : Bool) (d v : ℕ) → getD (sign m ++ digits-kept d v) 0 0 ≡ 32 → ⊥

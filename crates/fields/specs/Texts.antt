@@ -53,3 +53,7 @@ blank-text t = not (t .minus) && eqb (t .digits) 0
 -- the text of a number with no leading zero
 abbrev pub plain-text : Bool → ℕ → Text
 plain-text minus n = record { minus = minus; digits = length (decimal n); value = n }
+
+-- the text of a date
+abbrev pub dated : ℕ → Text
+dated n = record { minus = false; digits = 8; value = n }

@@ -2,7 +2,7 @@ ghost use mathlib.Core.Path.{_≡_};
 ghost use Rattle.refusals.specs.Answers.{Answers};
 ghost use Rattle.fields.specs.Columns.{date-columns, date-fits};
 ghost use Rattle.fields.specs.Reads.{Reads};
-ghost use Rattle.fields.specs.Texts.{date-text};
+ghost use Rattle.fields.specs.Texts.{date-text, dated};
 use super::text::Text;
 use refusals::Refusal;
 
@@ -12,6 +12,17 @@ impl Text {
         ensures { λ r. ⌜ r ≡ date-text (now (self .entry)) ⌝ }
     {
         !self.minus && self.digits == 8
+    }
+
+    // The text of a date.
+    fn eight_digits(date: u32) -> Text
+        ensures { λ r. ⌜ r ≡ dated date ⌝ }
+    {
+        Text {
+            minus: false,
+            digits: 8,
+            value: u64::from(date),
+        }
     }
 }
 
@@ -33,10 +44,6 @@ pub fn write_date(date: u32) -> Result<[u8; 10], Refusal>
     if date > 99_999_999 {
         return Err(Refusal::BeyondLimits);
     }
-    let text = Text {
-        minus: false,
-        digits: 8,
-        value: u64::from(date),
-    };
+    let text = Text::eight_digits(date);
     Ok(text.columns())
 }
