@@ -1,0 +1,25 @@
+-- What an entry changes in a ledger; all else stays.
+use mathlib.Core.Path.{_≡_}
+use Prim.Native.Nat.{ℕ, _+_, _-_, _*_}
+use lib.ListN.{set}
+use Rattle.std.specs.Of.Vec.{vec-items}
+use Rattle.std.specs.declared.option.Option.the-variants.{Some, None}
+use Rattle.histories.specs.declared.entry.Enrolment.{Enrolment}
+use Rattle.histories.specs.declared.entry.GateDay.{GateDay}
+use Rattle.ledger.specs.declared.state.Ledger.{Ledger}
+
+-- a day has new gate energies
+pub record WithGate (day : ℕ) (gate : GateDay) (old new : Ledger) : Type 0 where
+  pub opening : new .opening ≡ old .opening
+  pub gates : new .gates ≡ set (old .gates) day (Some gate)
+  pub intervals : new .intervals ≡ old .intervals
+  pub enrolments : new .enrolments ≡ old .enrolments
+  pub places : new .places ≡ old .places
+
+-- a meter has a new energy on a day
+pub record WithInterval (day meter energy : ℕ) (old new : Ledger) : Type 0 where
+  pub opening : new .opening ≡ old .opening
+  pub gates : new .gates ≡ old .gates
+  pub intervals : vec-items (new .intervals) ≡ set (vec-items (old .intervals)) (day * 32 + (meter - 1)) energy
+  pub enrolments : new .enrolments ≡ old .enrolments
+  pub places : new .places ≡ old .places

@@ -1,0 +1,4 @@
+pub mod Changes
+pub mod Days
+pub mod Limits
+pub mod Told

@@ -1,0 +1,5 @@
+// The interval meters of an area, numbered from 1.
+pub(crate) const METERS: u32 = 32;
+
+// The most that an interval meter burns on a day.
+pub(crate) const LARGEST_INTERVAL: u64 = 100_000_000;
