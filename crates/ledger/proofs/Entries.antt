@@ -11,10 +11,11 @@ use Rattle.std.proofs.shelf.Tests.{and-cases, and-from, and-parts, eqb-true, eq
 use Rattle.std.specs.Of.Vec.{vec-items}
 use Rattle.std.specs.declared.option.Option.the-variants.{Some, None}
 use Rattle.histories.specs.Calls.{between, meters}
-use Rattle.histories.specs.History.{History, Setting, gate-of, interval-in, latest}
-use Rattle.histories.specs.declared.entry.Entry.the-variants.{GateEntered, IntervalEntered}
+use Rattle.histories.specs.History.{History, Setting, enrolment-of, gate-of, interval-in, latest}
+use Rattle.histories.specs.declared.entry.Entry.the-variants.{DegreeDaysEntered, Enrolled, GateEntered, IntervalEntered}
+use Rattle.histories.specs.declared.entry.Enrolment.{Enrolment}
 use Rattle.histories.specs.declared.entry.GateDay.{GateDay}
-use Rattle.ledger.specs.Changes.{WithGate, WithInterval}
+use Rattle.ledger.specs.Changes.{WithEnrolment, WithGate, WithInterval}
 use Rattle.ledger.specs.Told.{Follows, gate-at}
 use Rattle.ledger.specs.declared.state.Ledger.{Ledger}
 use Rattle.ledger.proofs.Tables.{put-read, or-other, or-value}
@@ -68,4 +69,44 @@ interval-followed {s} {h} {day} {meter} {energy} {old} {new} change within low h
       rw (change .opening, change .intervals) (written ∙ rw (f .intervals m d) (or-value (eqb meter m && eqb day d) energy 0 (latest (interval-in m d) h)));
   enrolments = λ p. rw (change .opening, change .enrolments) (f .enrolments p);
   readings = λ test. rw (change .places) (f .readings test);
+}
+
+same-row : (point p points : ℕ) → 1 ≤ point → point ≤ points → eqb point p ≡ true → (between 1 points p ≡ true) × (p - 1 ≡ point - 1)
+same-row point p points low high same =
+    let e : point ≡ p = eqb-true point p same in
+    (and-from _ _ (le-leb 1 p (omega arith)) (le-leb p points (omega arith)), omega arith)
+
+other-row : (point p points : ℕ) → 1 ≤ point → eqb point p ≡ false → between 1 points p ≡ true → p - 1 ≡ point - 1 → ⊥
+other-row point p points low other inside e =
+    let p-low : 1 ≤ p = leb-true 1 p (and-parts (leb 1 p) (leb p points) inside .0) in
+    eqb-false point p other (omega arith)
+
+pub enrolment-followed : {s : Setting} {h : History} {point : ℕ} {enrolment : Enrolment} {old new : Ledger} → WithEnrolment point enrolment old new → 1 ≤ point → point ≤ old .opening .points → point - 1 < length (old .enrolments) → Follows s h old → Follows s (Enrolled point enrolment ∷ h) new
+enrolment-followed {s} {h} {point} {enrolment} {old} {new} change low high long f = record {
+  first = rw (change .opening) (f .first);
+  days = rw (change .opening) (f .days);
+  points = rw (change .opening) (f .points);
+  unaccounted = rw (change .opening) (f .unaccounted);
+  room = rw (change .places) (f .room);
+  gates = λ d. rw (change .opening, change .gates) (f .gates d);
+  intervals = λ m d. rw (change .opening, change .intervals) (f .intervals m d);
+  enrolments = λ p.
+      let written = put-read (old .enrolments) None (Some enrolment) (between 1 (old .opening .points) p) (eqb point p) (point - 1) (p - 1)
+      (same-row point p (old .opening .points) low high) (other-row point p (old .opening .points) low) long in
+      rw (change .opening, change .enrolments) (written ∙ rw (f .enrolments p) (or-other (eqb point p) enrolment (enrolment-of h p)));
+  readings = λ test. rw (change .places) (f .readings test);
+}
+
+-- a degree-day count is the estimator's: a ledger follows it as it is
+pub count-followed : {s : Setting} {h : History} {l : Ledger} (day count : ℕ) → Follows s h l → Follows s (DegreeDaysEntered day count ∷ h) l
+count-followed day count f = record {
+  first = f .first;
+  days = f .days;
+  points = f .points;
+  unaccounted = f .unaccounted;
+  room = f .room;
+  gates = f .gates;
+  intervals = f .intervals;
+  enrolments = f .enrolments;
+  readings = f .readings;
 }

@@ -23,3 +23,11 @@ pub record WithInterval (day meter energy : ℕ) (old new : Ledger) : Type 0 whe
   pub intervals : vec-items (new .intervals) ≡ set (vec-items (old .intervals)) (day * 32 + (meter - 1)) energy
   pub enrolments : new .enrolments ≡ old .enrolments
   pub places : new .places ≡ old .places
+
+-- a point is enrolled
+pub record WithEnrolment (point : ℕ) (enrolment : Enrolment) (old new : Ledger) : Type 0 where
+  pub opening : new .opening ≡ old .opening
+  pub gates : new .gates ≡ old .gates
+  pub intervals : new .intervals ≡ old .intervals
+  pub enrolments : new .enrolments ≡ set (old .enrolments) (point - 1) (Some enrolment)
+  pub places : new .places ≡ old .places

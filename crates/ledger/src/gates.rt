@@ -1,11 +1,9 @@
 ghost use mathlib.Core.Path.{_≡_};
-ghost use mathlib.Core.Bool.{true};
 ghost use Prim.Native.Nat.{ℕ, _<_};
 ghost use lib.Dec.{T};
 ghost use lib.ListN.{length};
 ghost use Rattle.std.specs.Vec.{made, refused};
 ghost use Rattle.std.specs.declared.option.Option.{Option};
-ghost use Rattle.histories.specs.Calls.{refusal};
 ghost use Rattle.histories.specs.History.{History, Setting};
 ghost use Rattle.histories.specs.declared.call.Call.the-variants.{EnterGate};
 ghost use Rattle.histories.specs.declared.entry.Entry.the-variants.{GateEntered};

@@ -1,11 +1,9 @@
 ghost use mathlib.Core.Path.{_≡_};
-ghost use mathlib.Core.Bool.{true};
 ghost use Prim.Native.Nat.{ℕ, _+_, _-_, _*_, _<_, _≤_};
 ghost use lib.Dec.{T};
 ghost use lib.ListN.{length};
 ghost use Rattle.std.specs.Of.Vec.{vec-items};
 ghost use Rattle.std.specs.Vec.{made, refused};
-ghost use Rattle.histories.specs.Calls.{refusal};
 ghost use Rattle.histories.specs.History.{History, Setting};
 ghost use Rattle.histories.specs.declared.call.Call.the-variants.{EnterInterval};
 ghost use Rattle.histories.specs.declared.entry.Entry.the-variants.{IntervalEntered};
