@@ -1,4 +1,5 @@
 pub mod Changes
 pub mod Days
 pub mod Limits
+pub mod Places
 pub mod Told

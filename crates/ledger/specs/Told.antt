@@ -22,6 +22,7 @@ use Rattle.histories.specs.declared.entry.Enrolment.{Enrolment}
 use Rattle.histories.specs.declared.entry.Entry.{Entry}
 use Rattle.histories.specs.declared.entry.GateDay.{GateDay}
 use Rattle.histories.specs.declared.entry.Reading.{Reading}
+use Rattle.ledger.specs.Places.{placed}
 use Rattle.ledger.specs.declared.opening.Opening.{Opening}
 use Rattle.ledger.specs.declared.state.Ledger.{Ledger}
 
@@ -40,11 +41,6 @@ meters-sum l d n = sum (map (λ m. interval-at l m d) (counting 1 n))
 -- the enrolment of a point of the book; another point has none
 abbrev pub enrolment-at : Ledger → ℕ → Option Enrolment
 enrolment-at l p = cond (between 1 (l .opening .points) p) (getD (l .enrolments) (p - 1) None) None
-
--- a place holds a reading that passes a test
-abbrev pub placed : (Reading → Bool) → Option Reading → Bool
-placed test None = false
-placed test (Some r) = test r
 
 -- the ledger says what the history has told since the opening, and its places hold the held readings, each in one place:
 -- whatever is asked of readings, as many places as held readings pass

@@ -1,5 +1,6 @@
 // What a book has been told: gates, interval energies, enrolments and held readings.
 mod dates;
+mod counting;
 mod day_loads;
 mod degree_days;
 mod enrolments;
@@ -7,7 +8,9 @@ mod gates;
 mod intervals;
 mod limits;
 mod opening;
+mod replacing;
 mod state;
 
 pub use opening::Opening;
+pub use replacing::replaces;
 pub use state::Ledger;
