@@ -1,23 +1,28 @@
 -- A ledger that follows a history follows it with the entry that it has taken. Assumes nothing.
-use mathlib.Core.Bool.{true, false, _&&_}
+use mathlib.Core.Bool.{Bool, true, false, cond, not, _&&_}
 use mathlib.Core.Logic.{⊎-elim}
-use mathlib.Core.List.{_∷_}
+use mathlib.Core.List.{List, _∷_}
 use mathlib.Core.Path.{_≡_, refl, sym, ap, _∙_}
 use Prim.Native.Nat.{ℕ, _<_, _≤_, _+_, _-_, _*_}
+use native.Mathlib.Nat.{add-comm}
 use native.Mathlib.Omega.{arith}
 use lib.Dec.{eqb, leb, ltb}
 use lib.ListN.{length}
 use Rattle.std.proofs.shelf.Tests.{and-cases, and-from, and-parts, eqb-true, eqb-false, le-leb, leb-true, lt-ltb}
 use Rattle.std.specs.Of.Vec.{vec-items}
 use Rattle.std.specs.declared.option.Option.the-variants.{Some, None}
+use Rattle.std.specs.shelf.Lists.{countBy, kept-by}
 use Rattle.histories.specs.Calls.{between, meters}
 use Rattle.histories.specs.History.{History, Setting, enrolment-of, gate-of, interval-in, latest}
-use Rattle.histories.specs.declared.entry.Entry.the-variants.{DegreeDaysEntered, Enrolled, GateEntered, IntervalEntered}
+use Rattle.histories.specs.declared.entry.Entry.the-variants.{DegreeDaysEntered, Enrolled, GateEntered, IntervalEntered, ReadingTaken}
+use Rattle.histories.specs.Readings.{held-of, replaces}
 use Rattle.histories.specs.declared.entry.Enrolment.{Enrolment}
 use Rattle.histories.specs.declared.entry.GateDay.{GateDay}
-use Rattle.ledger.specs.Changes.{WithEnrolment, WithGate, WithInterval}
+use Rattle.histories.specs.declared.entry.Reading.{Reading}
+use Rattle.ledger.specs.Changes.{WithEnrolment, WithGate, WithInterval, WithReading}
 use Rattle.ledger.specs.Told.{Follows, gate-at}
 use Rattle.ledger.specs.declared.state.Ledger.{Ledger}
+use Rattle.ledger.proofs.Held.{count-cons, count-kept}
 use Rattle.ledger.proofs.Tables.{put-read, or-other, or-value}
 
 pub gate-followed : {s : Setting} {h : History} {day : ℕ} {gate : GateDay} {old new : Ledger} → WithGate day gate old new → day < old .opening .days → day < length (old .gates) → Follows s h old → Follows s (GateEntered day gate ∷ h) new
@@ -109,4 +114,23 @@ count-followed day count f = record {
   intervals = f .intervals;
   enrolments = f .enrolments;
   readings = f .readings;
+}
+
+-- the readings held once one more is taken, counted by a test
+held-more : (r : Reading) (test : Reading → Bool) (rs : List Reading) → countBy (λ x. not (replaces r x) && test x) rs + cond (test r) 1 0 ≡ countBy test (r ∷ kept-by (λ x. not (replaces r x)) rs)
+held-more r test rs =
+    add-comm _ (cond (test r) 1 0) ∙ ap (λ n. cond (test r) 1 0 + n) (sym (count-kept test (λ x. not (replaces r x)) rs)) ∙ sym (count-cons test r (kept-by (λ x. not (replaces r x)) rs))
+
+pub reading-followed : {s : Setting} {h : History} {r : Reading} {old new : Ledger} → WithReading r old new → Follows s h old → Follows s (ReadingTaken r ∷ h) new
+reading-followed {s} {h} {r} {old} {new} change f = record {
+  first = rw (change .opening) (f .first);
+  days = rw (change .opening) (f .days);
+  points = rw (change .opening) (f .points);
+  unaccounted = rw (change .opening) (f .unaccounted);
+  room = change .room ∙ f .room;
+  gates = λ d. rw (change .opening, change .gates) (f .gates d);
+  intervals = λ m d. rw (change .opening, change .intervals) (f .intervals m d);
+  enrolments = λ p. rw (change .opening, change .enrolments) (f .enrolments p);
+  readings = λ test.
+      change .places test ∙ ap (λ n. n + cond (test r) 1 0) (f .readings (λ x. not (replaces r x) && test x)) ∙ held-more r test (held-of h);
 }

@@ -81,3 +81,26 @@ none-free places i taken all free = omega (arith, rw (take-all i places all) at 
 pub count-more : {X : Type 0} (p : X → Bool) (xs : List X) (i n : ℕ) (d : X) (b : Bool) → i < length xs → n ≡ countBy p (take i xs) → b ≡ p (getD xs i d) → cond b (n + 1) n ≡ countBy p (take (i + 1) xs)
 count-more p xs i n d true within so-far here = ap (λ m. m + 1) so-far ∙ sym (countBy-more-yes p xs i d within (sym here))
 count-more p xs i n d false within so-far here = so-far ∙ sym (countBy-more-no p xs i d within (sym here))
+
+some-placed : (place : Option Reading) → isSome place ≡ placed (λ _. true) place
+some-placed None = refl
+some-placed (Some r) = refl
+
+-- a count by two tests that agree
+pub count-same : {X : Type 0} (p q : X → Bool) → ((x : X) → p x ≡ q x) → (xs : List X) → countBy p xs ≡ countBy q xs
+count-same p q same [] = refl
+count-same p q same (x ∷ xs) =
+    count-cons p x xs ∙ ap (λ b. cond b 1 0 + countBy p xs) (same x) ∙ ap (λ n. cond (q x) 1 0 + n) (count-same p q same xs) ∙ sym (count-cons q x xs)
+
+and-true : (b : Bool) → (b && true) ≡ b
+and-true true = refl
+and-true false = refl
+
+kept-placed : (new : Reading) (place : Option Reading) → placed (λ old. not (replaces new old) && true) place ≡ placed (λ old. not (replaces new old)) place
+kept-placed new None = refl
+kept-placed new (Some old) = and-true (not (replaces new old))
+
+-- the places that stay taken are those of the readings that are kept
+pub taken-left : (new : Reading) (places : List (Option Reading)) → countBy isSome (map (left-by new) places) ≡ countBy (placed (λ old. not (replaces new old))) places
+taken-left new places =
+    count-same isSome (placed (λ _. true)) some-placed (map (left-by new) places) ∙ count-left new (λ _. true) places ∙ count-same _ _ (kept-placed new) places

@@ -1,4 +1,6 @@
 pub mod Tables
 pub mod Entries
 pub mod Held
+pub mod Judged
 pub mod Loads
+pub mod Asked

@@ -1,14 +1,18 @@
 // What a book has been told: gates, interval energies, enrolments and held readings.
-mod dates;
 mod counting;
+mod covered;
+mod dates;
 mod day_loads;
 mod degree_days;
 mod enrolments;
 mod gates;
+mod holding;
 mod intervals;
 mod limits;
+mod marks;
 mod opening;
 mod replacing;
+mod spans;
 mod state;
 
 pub use opening::Opening;

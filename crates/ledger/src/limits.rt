@@ -6,3 +6,6 @@ pub(crate) const LARGEST_INTERVAL: u64 = 100_000_000;
 
 // The retailers of an area, numbered from 1.
 pub(crate) const RETAILERS: u32 = 16;
+
+// The most energy of a reading.
+pub(crate) const LARGEST_ENERGY: i64 = 10_000_000;

@@ -20,13 +20,7 @@ fn left_by(new: &Reading, place: Option<Reading>) -> Option<Reading>
     ensures { λ r. ⌜ r ≡ left-by (now (new .entry)) place ⌝ }
 {
     match place {
-        Some(old) => {
-            if replaces(new, &old) {
-                None
-            } else {
-                Some(old)
-            }
-        }
+        Some(old) => { if replaces(new, &old) { None } else { Some(old) } }
         None => None,
     }
 }

@@ -12,8 +12,8 @@ pub loop-place-again : need.loop-place-again
 loop-place-again g c =
     let more = count-more (placed (g .C·ReadingTest .passes (c .args .test .now))) (c .args .places .now) (c .loop-place .place-index) (c .loop-place .count) None in
     elim (c .if-holds .came) [
-      then-holds w ↦ (w .count-is ∙ more true (c .loop-place-test .taken) (c .loop-place .inv .0) (w .if-holds .ensures tt), omega (arith, w .count-is, c .loop-place .inv .1))
-    | else-holds w ↦ (w .count-is ∙ more false (c .loop-place-test .taken) (c .loop-place .inv .0) (w .if-holds .ensures tt), omega (arith, w .count-is, c .loop-place .inv .1))
+      | then-holds w ↦ (w .count-is ∙ more true (c .loop-place-test .taken) (c .loop-place .inv .0) (w .if-holds .ensures tt), omega (arith, w .count-is, c .loop-place .inv .1))
+      | else-holds w ↦ (w .count-is ∙ more false (c .loop-place-test .taken) (c .loop-place .inv .0) (w .if-holds .ensures tt), omega (arith, w .count-is, c .loop-place .inv .1))
     ]
 
 pub returns : need.returns

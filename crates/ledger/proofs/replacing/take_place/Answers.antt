@@ -15,9 +15,9 @@ use Rattle.ledger.proofs.replacing.take_place.Needs as need
 
 pub loop-i-again : need.loop-i-again
 loop-i-again c =
-    let here = ap isSome (sym (c .index .ensures)) ∙ c .if-is-none .ensures tt in
-    ( c .loop-i .inv .0
-    , omega (arith, countBy-more-yes isSome (vec-items (c .loop-i .places)) (c .loop-i .i) (c .index .result .now) (omega (arith, c .loop-i .places .ok .0)) here, c .loop-i .inv .1)
+    let here = ap isSome (sym (c .index .ensures)) ∙ c .if-is-none .ensures tt in (
+      c .loop-i .inv .0,
+      omega (arith, countBy-more-yes isSome (vec-items (c .loop-i .places)) (c .loop-i .i) (c .index .result .now) (omega (arith, c .loop-i .places .ok .0)) here, c .loop-i .inv .1),
     )
 
 pub returns : need.returns
