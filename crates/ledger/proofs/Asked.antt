@@ -26,7 +26,7 @@ use Rattle.refusals.specs.Answers.{AnswersBy, accepted-since}
 use Rattle.refusals.specs.declared.refusal.Refusal.{Refusal}
 use Rattle.ledger.specs.Told.{Follows}
 use Rattle.ledger.specs.declared.state.Ledger.{Ledger}
-use Rattle.ledger.proofs.Held.{some-counted}
+use Rattle.reading_places.proofs.Held.{some-counted}
 
 -- the second of two tests decides where the first leaves it to it
 pub or-second : {a b x : Bool} → a ≡ false → x ≡ b → x ≡ (a || b)

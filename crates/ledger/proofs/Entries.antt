@@ -22,7 +22,7 @@ use Rattle.histories.specs.declared.entry.Reading.{Reading}
 use Rattle.ledger.specs.Changes.{WithEnrolment, WithGate, WithInterval, WithReading}
 use Rattle.ledger.specs.Told.{Follows, gate-at}
 use Rattle.ledger.specs.declared.state.Ledger.{Ledger}
-use Rattle.ledger.proofs.Held.{count-cons, count-kept}
+use Rattle.reading_places.proofs.Held.{count-cons, count-kept}
 use Rattle.ledger.proofs.Tables.{put-read, or-other, or-value}
 
 pub gate-followed : {s : Setting} {h : History} {day : ℕ} {gate : GateDay} {old new : Ledger} → WithGate day gate old new → day < old .opening .days → day < length (old .gates) → Follows s h old → Follows s (GateEntered day gate ∷ h) new

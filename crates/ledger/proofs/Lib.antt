@@ -1,6 +1,5 @@
 pub mod Tables
 pub mod Entries
-pub mod Held
 pub mod Judged
 pub mod Loads
 pub mod Asked

@@ -10,7 +10,7 @@ use Rattle.histories.specs.Readings.{replaces}
 use Rattle.histories.specs.declared.entry.Enrolment.{Enrolment}
 use Rattle.histories.specs.declared.entry.GateDay.{GateDay}
 use Rattle.histories.specs.declared.entry.Reading.{Reading}
-use Rattle.ledger.specs.Places.{placed}
+use Rattle.reading_places.specs.Places.{placed}
 use Rattle.ledger.specs.declared.state.Ledger.{Ledger}
 
 -- a day has new gate energies

@@ -2,5 +2,4 @@ pub mod Changes
 pub mod Days
 pub mod Judging
 pub mod Limits
-pub mod Places
 pub mod Told

@@ -22,7 +22,7 @@ use Rattle.histories.specs.declared.entry.Enrolment.{Enrolment}
 use Rattle.histories.specs.declared.entry.Entry.{Entry}
 use Rattle.histories.specs.declared.entry.GateDay.{GateDay}
 use Rattle.histories.specs.declared.entry.Reading.{Reading}
-use Rattle.ledger.specs.Places.{placed}
+use Rattle.reading_places.specs.Places.{placed}
 use Rattle.ledger.specs.declared.opening.Opening.{Opening}
 use Rattle.ledger.specs.declared.state.Ledger.{Ledger}
 

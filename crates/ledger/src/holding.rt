@@ -10,15 +10,15 @@ ghost use Rattle.histories.specs.declared.call.Call.the-variants.{EnterReading}
 ghost use Rattle.histories.specs.declared.entry.Entry.the-variants.{ReadingTaken};
 ghost use Rattle.ledger.specs.Changes.{WithReading};
 ghost use Rattle.ledger.specs.Judging.{NumbersJudged};
-ghost use Rattle.ledger.specs.Places.{placed};
+ghost use Rattle.reading_places.specs.Places.{placed};
 ghost use Rattle.ledger.specs.Told.{Answered, Follows, Judged};
 use super::limits::LARGEST_ENERGY;
-use super::replacing::free_replaced;
-use super::replacing::take_place;
 use super::state::Ledger;
 use calendar::day_number_of;
 use histories::Entry;
 use histories::Reading;
+use reading_places::free_replaced;
+use reading_places::take_place;
 use readings::ReadingType;
 use refusals::Refusal;
 
@@ -80,7 +80,7 @@ impl Ledger {
         ensures { λ _. ⌜ WithReading reading (now (self .entry)) (now (self .exit)) ⌝ }
     {
         free_replaced(&mut self.places, &reading);
-        take_place(&mut self.places, reading);
+        let _ = take_place(&mut self.places, reading);
     }
 
     // Takes a reading of a point from a start date to the day before an end date. It replaces the readings of which it covers a day.

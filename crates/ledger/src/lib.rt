@@ -1,5 +1,4 @@
 // What a book has been told: gates, interval energies, enrolments and held readings.
-mod counting;
 mod covered;
 mod dates;
 mod day_loads;
@@ -11,10 +10,8 @@ mod intervals;
 mod limits;
 mod marks;
 mod opening;
-mod replacing;
 mod spans;
 mod state;
 
 pub use opening::Opening;
-pub use replacing::replaces;
 pub use state::Ledger;

@@ -5,16 +5,16 @@ ghost use Rattle.std.specs.shelf.Lists.{countBy};
 ghost use Rattle.histories.specs.Calls.{after-all-marks, end-not-allowed, started-before};
 ghost use Rattle.histories.specs.History.{History, Setting, enrolment-of};
 ghost use Rattle.histories.specs.Readings as held;
-ghost use Rattle.ledger.specs.Places.{placed};
+ghost use Rattle.reading_places.specs.Places.{placed};
 ghost use Rattle.ledger.specs.Told.{Follows};
-use super::counting::EndsFrom;
-use super::counting::EndsFromTest;
-use super::counting::EndsOn;
-use super::counting::EndsOnTest;
-use super::counting::ReadingTest;
-use super::counting::count_passing;
 use super::state::Ledger;
 use histories::Reading;
+use reading_places::EndsFrom;
+use reading_places::EndsFromTest;
+use reading_places::EndsOn;
+use reading_places::EndsOnTest;
+use reading_places::ReadingTest;
+use reading_places::count_passing;
 
 impl Ledger {
     // How many held readings pass a test.

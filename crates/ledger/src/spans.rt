@@ -8,14 +8,14 @@ ghost use Rattle.histories.specs.Calls.{soft-over-firm};
 ghost use Rattle.histories.specs.History.{History, Setting};
 ghost use Rattle.histories.specs.Readings as held;
 ghost use Rattle.ledger.specs.Judging.{SpanJudged};
-ghost use Rattle.ledger.specs.Places.{placed};
+ghost use Rattle.reading_places.specs.Places.{placed};
 ghost use Rattle.ledger.specs.Told.{Follows};
-use super::counting::FirmReplacedBy;
-use super::counting::FirmReplacedByTest;
-use super::counting::KeptBeside;
-use super::counting::KeptBesideTest;
 use super::state::Ledger;
 use histories::Reading;
+use reading_places::FirmReplacedBy;
+use reading_places::FirmReplacedByTest;
+use reading_places::KeptBeside;
+use reading_places::KeptBesideTest;
 use refusals::Refusal;
 
 impl Ledger {

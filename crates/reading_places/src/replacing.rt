@@ -1,11 +1,12 @@
 ghost use mathlib.Core.Path.{_≡_};
+ghost use mathlib.Core.Bool.{true, false};
 ghost use mathlib.Core.List.{map};
-ghost use Prim.Native.Nat.{_<_};
+ghost use lib.Dec.{ltb};
 ghost use Rattle.std.specs.Of.Vec.{vec-items, vec-len};
 ghost use Rattle.std.specs.Options.{isSome};
 ghost use Rattle.std.specs.shelf.Lists.{countBy};
 ghost use Rattle.histories.specs.Readings as held;
-ghost use Rattle.ledger.specs.Places.{Taken, left-by};
+ghost use Rattle.reading_places.specs.Places.{Taken, left-by};
 use histories::Reading;
 
 // Whether a new reading covers a day of an old one of its point, and so replaces it.
@@ -26,7 +27,7 @@ fn left_by(new: &Reading, place: Option<Reading>) -> Option<Reading>
 }
 
 // Frees the places of the readings that a new one replaces.
-pub(crate) fn free_replaced(places: &mut Vec<Option<Reading>>, new: &Reading)
+pub fn free_replaced(places: &mut Vec<Option<Reading>>, new: &Reading)
     ensures items { λ _. ⌜ vec-items (now (places .exit)) ≡ map (left-by (now (new .entry))) (vec-items (now (places .entry))) ⌝ }
     ensures len { λ _. ⌜ vec-len (now (places .exit)) ≡ vec-len (now (places .entry)) ⌝ }
 {
@@ -35,16 +36,18 @@ pub(crate) fn free_replaced(places: &mut Vec<Option<Reading>>, new: &Reading)
     }
 }
 
-// Puts a reading into a free place.
-pub(crate) fn take_place(places: &mut Vec<Option<Reading>>, reading: Reading)
-    requires { ⌜ countBy (λ place. isSome place) (vec-items (now places)) < vec-len (now places) ⌝ }
-    ensures items { λ _. ⌜ Taken reading (vec-items (now (places .entry))) (vec-items (now (places .exit))) ⌝ }
+// Puts a reading into a free place, and says whether there was one.
+pub fn take_place(places: &mut Vec<Option<Reading>>, reading: Reading) -> bool
+    ensures free { λ r. ⌜ r ≡ ltb (countBy (λ place. isSome place) (vec-items (now (places .entry)))) (vec-len (now (places .entry))) ⌝ }
+    ensures taken { λ r. ⌜ (r ≡ true → Taken reading (vec-items (now (places .entry))) (vec-items (now (places .exit)))) ⌝ }
+    ensures full { λ r. ⌜ (r ≡ false → now (places .exit) ≡ now (places .entry)) ⌝ }
     ensures len { λ _. ⌜ vec-len (now (places .exit)) ≡ vec-len (now (places .entry)) ⌝ }
 {
     for i in 0..places.len() {
         if places[i].is_none() {
             places[i] = Some(reading);
-            return;
+            return true;
         }
     }
+    false
 }

@@ -3,10 +3,10 @@ use mathlib.Core.Path.{_∙_}
 use native.Mathlib.Omega.{arith}
 use Rattle.std.proofs.shelf.Lists.{take-all}
 use Rattle.std.specs.declared.option.Option.the-variants.{None}
-use Rattle.ledger.specs.Places.{placed}
-use Rattle.ledger.proofs.Held.{count-more}
-use Rattle.ledger.proofs.counting.count_passing.Needs as need
-use Rattle.ledger.proofs.counting.count_passing.Needs.{then-holds, else-holds}
+use Rattle.reading_places.specs.Places.{placed}
+use Rattle.reading_places.proofs.Held.{count-more}
+use Rattle.reading_places.proofs.counting.count_passing.Needs as need
+use Rattle.reading_places.proofs.counting.count_passing.Needs.{then-holds, else-holds}
 
 pub loop-place-again : need.loop-place-again
 loop-place-again g c =

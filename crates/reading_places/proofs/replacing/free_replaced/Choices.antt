@@ -2,8 +2,8 @@ use mathlib.Core.Path.{_≡_}
 use mathlib.Core.List.{map, _++_}
 use lib.ListN.{drop, take}
 use Rattle.std.specs.Of.Vec.{vec-items, vec-len}
-use Rattle.ledger.specs.Places.{left-by}
-use Rattle.ledger.proofs.replacing.free_replaced.Given as given
+use Rattle.reading_places.specs.Places.{left-by}
+use Rattle.reading_places.proofs.replacing.free_replaced.Given as given
 
 abbrev pub Inv-loop-i : given.InvT-loop-i
 Inv-loop-i l =

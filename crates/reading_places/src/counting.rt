@@ -5,12 +5,12 @@ ghost use Rattle.std.specs.shelf.Lists.{countBy};
 ghost use Rattle.histories.specs.Readings as held;
 ghost use Rattle.histories.specs.declared.entry.Reading.{Reading};
 ghost use Rattle.readings.specs.Types.{firm};
-ghost use Rattle.ledger.specs.Places.{placed};
+ghost use Rattle.reading_places.specs.Places.{placed};
 use super::replacing::replaces;
 use histories::Reading;
 
 // What can be asked of a reading.
-pub(crate) trait ReadingTest {
+pub trait ReadingTest {
     ghost passes: { Self → Reading → Bool };
 
     fn test(&self, reading: &Reading) -> bool
@@ -19,12 +19,12 @@ pub(crate) trait ReadingTest {
 
 // Whether a reading of a point ends on a day.
 #[derive(Clone, Copy)]
-pub(crate) struct EndsOn {
-    pub(crate) point: u32,
-    pub(crate) day: u32,
+pub struct EndsOn {
+    pub point: u32,
+    pub day: u32,
 }
 
-pub(crate) impl ReadingTest for EndsOn as EndsOnTest {
+pub impl ReadingTest for EndsOn as EndsOnTest {
     ghost passes = { λ s r. eqb (r .point) (s .point) && eqb (r .end) (s .day) };
 
     fn test(&self, reading: &Reading) -> bool {
@@ -34,12 +34,12 @@ pub(crate) impl ReadingTest for EndsOn as EndsOnTest {
 
 // Whether a reading of a point ends on a day or later.
 #[derive(Clone, Copy)]
-pub(crate) struct EndsFrom {
-    pub(crate) point: u32,
-    pub(crate) day: u32,
+pub struct EndsFrom {
+    pub point: u32,
+    pub day: u32,
 }
 
-pub(crate) impl ReadingTest for EndsFrom as EndsFromTest {
+pub impl ReadingTest for EndsFrom as EndsFromTest {
     ghost passes = { λ s r. eqb (r .point) (s .point) && leb (s .day) (r .end) };
 
     fn test(&self, reading: &Reading) -> bool {
@@ -49,11 +49,11 @@ pub(crate) impl ReadingTest for EndsFrom as EndsFromTest {
 
 // Whether a reading is firm and a new one would replace it.
 #[derive(Clone, Copy)]
-pub(crate) struct FirmReplacedBy {
-    pub(crate) new: Reading,
+pub struct FirmReplacedBy {
+    pub new: Reading,
 }
 
-pub(crate) impl ReadingTest for FirmReplacedBy as FirmReplacedByTest {
+pub impl ReadingTest for FirmReplacedBy as FirmReplacedByTest {
     ghost passes = { λ s r. held.replaces (s .new) r && firm (r .«reading_type») };
 
     fn test(&self, reading: &Reading) -> bool {
@@ -63,11 +63,11 @@ pub(crate) impl ReadingTest for FirmReplacedBy as FirmReplacedByTest {
 
 // Whether a reading is still held beside a new one.
 #[derive(Clone, Copy)]
-pub(crate) struct KeptBeside {
-    pub(crate) new: Reading,
+pub struct KeptBeside {
+    pub new: Reading,
 }
 
-pub(crate) impl ReadingTest for KeptBeside as KeptBesideTest {
+pub impl ReadingTest for KeptBeside as KeptBesideTest {
     ghost passes = { λ s r. not (held.replaces (s .new) r) };
 
     fn test(&self, reading: &Reading) -> bool {
@@ -86,7 +86,7 @@ fn holds<C: ReadingTest>(place: &Option<Reading>, test: &C) -> bool
 }
 
 // How many places hold a reading that passes a test.
-pub(crate) fn count_passing<C: ReadingTest>(places: &[Option<Reading>], test: &C) -> usize
+pub fn count_passing<C: ReadingTest>(places: &[Option<Reading>], test: &C) -> usize
     ensures { λ r. ⌜ r ≡ countBy (placed (C·ReadingTest .passes (now (test .entry)))) (now (places .entry)) ⌝ }
 {
     let mut count = 0;

@@ -6,17 +6,17 @@ use Prim.Native.Nat.{ℕ, _<_, _≤_, _+_}
 use native.Mathlib.Nat.{zero-add}
 use native.Mathlib.Omega.{arith}
 use lib.Dec.{ltb}
-use lib.ListN.{drop, getD, length, set, take}
+use lib.ListN.{drop, getD, length, length-set, set, take}
 use Rattle.std.proofs.shelf.Lists.{drop-all, take-all}
-use Rattle.std.proofs.shelf.Sums.{countBy-more-no, countBy-more-yes, sumBy-cons, sumBy-set}
-use Rattle.std.proofs.shelf.Tests.{lt-ltb}
+use Rattle.std.proofs.shelf.Sums.{countBy-le-length, countBy-more-no, countBy-more-yes, sumBy-cons, sumBy-set}
+use Rattle.std.proofs.shelf.Tests.{lt-ltb, true≢false}
 use Rattle.std.specs.Options.{isSome}
 use Rattle.std.specs.declared.option.Option.{Option}
 use Rattle.std.specs.declared.option.Option.the-variants.{Some, None}
 use Rattle.std.specs.shelf.Lists.{countBy, kept-by}
 use Rattle.histories.specs.Readings.{replaces, some-reading}
 use Rattle.histories.specs.declared.entry.Reading.{Reading}
-use Rattle.ledger.specs.Places.{Taken, left-by, placed}
+use Rattle.reading_places.specs.Places.{Taken, left-by, placed}
 
 -- the end of a loop that goes over a list in place
 pub map-over-all : {X : Type 0} (f : X → X) (xs ys : List X) (i : ℕ) → length xs ≤ i → ys ≡ map f (take i xs) ++ drop i xs → ys ≡ map f xs
@@ -66,6 +66,9 @@ count-left new test (place ∷ places) =
 abbrev counted : (Reading → Bool) → Option Reading → ℕ
 counted test place = cond (placed test place) 1 0
 
+abbrev taken-by-one : Option Reading → ℕ
+taken-by-one place = cond (isSome place) 1 0
+
 -- what is counted once a reading has taken a free place
 pub count-taken : (r : Reading) (test : Reading → Bool) (old new : List (Option Reading)) → Taken r old new → countBy (placed test) new ≡ countBy (placed test) old + cond (test r) 1 0
 count-taken r test old new (k, within, free, is) =
@@ -73,9 +76,20 @@ count-taken r test old new (k, within, free, is) =
     let was-none = ap (counted test) free in
     ap (λ places. countBy (placed test) places) is ∙ omega (arith, set-one, was-none)
 
+pub none-since : {X : Type 0} (o : Option X) → isSome o ≡ false → o ≡ None
+none-since None e = refl
+none-since (Some x) e = absurd (true≢false e)
+
 -- places that are all taken have none free
-pub none-free : (places : List (Option Reading)) (i : ℕ) → countBy isSome (take i places) ≡ i → length places ≤ i → countBy isSome places < length places → ⊥
-none-free places i taken all free = omega (arith, rw (take-all i places all) at taken)
+pub none-free : (places : List (Option Reading)) (i : ℕ) → countBy isSome (take i places) ≡ i → length places ≤ i → length places ≤ countBy isSome places
+none-free places i taken all = omega (arith, rw (take-all i places all) at taken)
+
+-- a free place leaves fewer taken than there are
+pub one-free : (places : List (Option Reading)) (k : ℕ) (r : Reading) → k < length places → getD places k None ≡ None → countBy isSome places < length places
+one-free places k r within free =
+    let one-more = sumBy-set taken-by-one places k (Some r) None within in
+    let none = ap (taken-by-one) free in
+    omega (arith, one-more, none, countBy-le-length isSome (set places k (Some r)), length-set places k (Some r))
 
 -- a count goes on
 pub count-more : {X : Type 0} (p : X → Bool) (xs : List X) (i n : ℕ) (d : X) (b : Bool) → i < length xs → n ≡ countBy p (take i xs) → b ≡ p (getD xs i d) → cond b (n + 1) n ≡ countBy p (take (i + 1) xs)

@@ -2,8 +2,8 @@ use mathlib.Core.Path.{_≡_}
 use Prim.Native.Nat.{_≤_}
 use lib.ListN.{take}
 use Rattle.std.specs.shelf.Lists.{countBy}
-use Rattle.ledger.specs.Places.{placed}
-use Rattle.ledger.proofs.counting.count_passing.Given as given
+use Rattle.reading_places.specs.Places.{placed}
+use Rattle.reading_places.proofs.counting.count_passing.Given as given
 
 abbrev pub Inv-loop-place : given.InvT-loop-place
 Inv-loop-place g l =

@@ -3,9 +3,9 @@ use native.Mathlib.Omega.{arith}
 use lib.ListN.{set}
 use Rattle.std.proofs.shelf.Edits.{map-over-more}
 use Rattle.std.specs.Of.Vec.{vec-items}
-use Rattle.ledger.specs.Places.{left-by}
-use Rattle.ledger.proofs.Held.{map-over-all}
-use Rattle.ledger.proofs.replacing.free_replaced.Needs as need
+use Rattle.reading_places.specs.Places.{left-by}
+use Rattle.reading_places.proofs.Held.{map-over-all}
+use Rattle.reading_places.proofs.replacing.free_replaced.Needs as need
 
 pub loop-i-again : need.loop-i-again
 loop-i-again c = (
