@@ -9,9 +9,11 @@ mod holding;
 mod intervals;
 mod limits;
 mod marks;
+mod open;
 mod opening;
 mod spans;
 mod state;
 
+pub use open::Unopened;
 pub use opening::Opening;
 pub use state::Ledger;
