@@ -15,13 +15,13 @@ season-of month =
     cond (leb 8 month && leb month 10) Cold
     (cond ((eqb month 6 || eqb month 7) || (eqb month 11 || eqb month 12)) Between Warm)
 
--- what a reading taken in a season counts for, in twelfths: the colder the season, the more of the year's use is in it
+-- p, by the season of the last reading: in the cold more is used, so that litres read then count for less
 abbrev pub reading-weight : Season → ℕ
 reading-weight Cold = 3
 reading-weight Between = 4
 reading-weight Warm = 6
 
--- what a day in a season counts for: the colder the season, the more is used
+-- q, by the season of the day: in the cold more is used; p × q is 12 where both fall in the same season
 abbrev pub day-weight : Season → ℕ
 day-weight Cold = 4
 day-weight Between = 3

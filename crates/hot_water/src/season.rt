@@ -22,7 +22,7 @@ impl Season {
         }
     }
 
-    // What a reading taken in the season counts for, in twelfths.
+    // What litres read in the season count for.
     pub(crate) fn reading_weight(self) -> u64
         ensures { λ r. ⌜ r ≡ reading-weight self ⌝ ∗ ⌜ r ≤ 6 ⌝ }
     {
@@ -33,7 +33,7 @@ impl Season {
         }
     }
 
-    // What a day in the season counts for.
+    // What a day in the season counts for: 12 in all where the litres were read in the same season.
     pub(crate) fn day_weight(self) -> u64
         ensures { λ r. ⌜ r ≡ day-weight self ⌝ ∗ ⌜ r ≤ 4 ⌝ }
     {
