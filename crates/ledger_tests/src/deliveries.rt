@@ -67,7 +67,7 @@ fn actual_over_several_estimates(rt: LibcRuntime) -> Result<(), Fail> {
         0,
     )?;
     check_eq(
-        number(ledger.enter_reading(1, 20240702, 20240704, 50, ReadingType::Customer)),
+        number(ledger.enter_reading(1, 20240702, 20240704, 50, ReadingType::CustomersOwn)),
         0,
     )?;
     check(ledger.is_mark(1, 1))?;
