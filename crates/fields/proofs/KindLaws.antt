@@ -1,13 +1,15 @@
 -- Laws of every kind: so many columns, and one value for them. Assumes nothing.
 use mathlib.Core.Path.{_≡_, refl, sym, ap, _∙_}
 use mathlib.Core.Bool.{cond}
+use mathlib.Core.List.{List, [], _∷_}
 use Prim.Native.Nat.{ℕ}
+use native.Mathlib.Omega.{arith}
 use lib.Dec.{T, eqb}
 use lib.ListN.{length, getD}
 use Rattle.fields.specs.Columns.{letter-of}
 use Rattle.fields.specs.Kinds.{Kind, Held, width, fits, columns, number, signed, date, blank, reading-type, no-letter}
-use Rattle.fields.specs.declared.letter.ReadingType.{ReadingType}
-use Rattle.fields.specs.declared.letter.ReadingType.the-variants.{Actual, Substituted, Estimated, CustomersOwn}
+use Rattle.readings.specs.declared.ReadingType.{ReadingType}
+use Rattle.readings.specs.declared.ReadingType.the-variants.{Actual, Substituted, Estimated, CustomersOwn}
 use Rattle.fields.proofs.Holding.{number-sort, signed-sort, date-sort, blank-sort, ten-columns, told-by-columns}
 
 pub length-columns : (k : Kind) (x : Held k) → T (fits k x) → length (columns k x) ≡ width k

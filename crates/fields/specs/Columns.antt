@@ -1,13 +1,13 @@
 -- How a value stands in its columns.
-use mathlib.Core.Bool.{Bool}
+use mathlib.Core.Bool.{Bool, true, false}
 use mathlib.Core.List.{List, [], _∷_, _++_}
 use Prim.Native.Nat.{ℕ, zero, suc, _+_, _-_, _/_, _%_, _^_}
 use lib.Dec.{ltb}
 use lib.IntN.{ℤ, pos, negsuc}
 use lib.ListN.{length, replicate}
 use Rattle.std.specs.Written as written
-use Rattle.fields.specs.declared.letter.ReadingType.{ReadingType}
-use Rattle.fields.specs.declared.letter.ReadingType.the-variants.{Actual, Substituted, Estimated, CustomersOwn}
+use Rattle.readings.specs.declared.ReadingType.{ReadingType}
+use Rattle.readings.specs.declared.ReadingType.the-variants.{Actual, Substituted, Estimated, CustomersOwn}
 
 -- a text at the right of ten columns, spaces before it
 abbrev pub right-aligned : List ℕ → List ℕ

@@ -6,7 +6,7 @@ use Prim.Native.Nat.{ℕ}
 use lib.Dec.{T}
 use lib.IntN.{ℤ}
 use Rattle.fields.specs.Columns.{number-columns, signed-columns, date-columns, blank-columns, letter-of, number-fits, signed-fits, date-fits}
-use Rattle.fields.specs.declared.letter.ReadingType.{ReadingType}
+use Rattle.readings.specs.declared.ReadingType.{ReadingType}
 
 -- a number, a number that may be negative, a date, an unused field; a type of reading, no letter
 pub data Kind : Type 0 where

@@ -1,4 +1,4 @@
-use fields::ReadingType;
+use readings::ReadingType;
 use records::Record;
 use std::fmt;
 

@@ -3,7 +3,7 @@ ghost use Rattle.fields.specs.Kinds.{number, signed, date, blank, reading-type,
 ghost use Rattle.lines.specs.Parts.{part, start, fault-at, PartRead, RestRead, TagRead};
 use super::fault::Fault;
 use super::field::Field;
-use fields::ReadingType;
+use readings::ReadingType;
 use records::Tag;
 use refusals::Refusal;
 
@@ -56,7 +56,7 @@ pub(crate) fn blank(line: &[u8; 46], field: Field) -> Result<(), Fault>
 pub(crate) fn reading_type(line: &[u8; 46]) -> Result<ReadingType, Fault>
     ensures { λ r. ⌜ PartRead (part reading-type 44 (now (line .entry))) r ⌝ }
 {
-    placed(45, ReadingType::from_letter(line[44]))
+    placed(45, fields::type_of_letter(line[44]))
 }
 
 // The letter's column of a line without a letter.

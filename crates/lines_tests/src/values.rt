@@ -1,5 +1,5 @@
-use fields::ReadingType;
 use lines::read_line;
+use readings::ReadingType;
 use records::Record;
 use std::test::*;
 

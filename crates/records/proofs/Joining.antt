@@ -1,10 +1,10 @@
 -- A line joined from its parts. Assumes nothing.
 use mathlib.Core.Path.{_≡_, refl, sym, ap, subst, _∙_}
-use mathlib.Core.Bool.{Bool, true, false, _&&_}
+use mathlib.Core.Bool.{Bool, true, false, cond, _&&_}
 use mathlib.Core.List.{List, [], _∷_, _++_, append-assoc}
 use Prim.Native.Nat.{ℕ, _+_}
 use lib.Dec.{T}
-use lib.ListN.{length, take}
+use lib.ListN.{length, take, drop}
 use Rattle.std.specs.Results.{isErr, ErrBy}
 use Rattle.std.specs.declared.result.Result.{Result}
 use Rattle.std.specs.declared.result.Result.the-variants.{Ok, Err}
@@ -13,7 +13,7 @@ use Rattle.refusals.specs.Answers.{Answers}
 use Rattle.refusals.specs.Numbers.{number-of}
 use Rattle.refusals.specs.declared.refusal.Refusal.{Refusal}
 use Rattle.fields.specs.Kinds.{fits, columns}
-use Rattle.fields.specs.declared.letter.ReadingType.{ReadingType}
+use Rattle.readings.specs.declared.ReadingType.{ReadingType}
 use Rattle.std.specs.declared.option.Option.{Option}
 use Rattle.std.specs.declared.option.Option.the-variants.{Some, None}
 use Rattle.records.specs.Layouts.{cell-of, letter-cell, layout-cells}

@@ -3,7 +3,7 @@ use mathlib.Core.List.{List, [], _∷_}
 use Rattle.std.specs.declared.option.Option.{Option}
 use Rattle.std.specs.declared.option.Option.the-variants.{Some, None}
 use Rattle.fields.specs.Kinds.{number, signed, date, reading-type}
-use Rattle.fields.specs.declared.letter.ReadingType.{ReadingType}
+use Rattle.readings.specs.declared.ReadingType.{ReadingType}
 use Rattle.records.specs.Records.{Cell, cell, unused, letterless}
 use Rattle.records.specs.declared.layout.Content.{Content}
 use Rattle.records.specs.declared.layout.Content.the-variants.{Number, Signed, Date, Blank}

@@ -1,4 +1,4 @@
-use fields::ReadingType;
+use readings::ReadingType;
 
 // A book opens: its first date, its number of days, and the unaccounted-for value in ten-thousandths.
 #[derive(Clone, Copy)]

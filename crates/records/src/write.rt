@@ -48,7 +48,7 @@ impl Layout {
         ensures { λ r. ⌜ r ∷ [] ≡ columns (letter-cell (now (self .entry) .letter) .kind) (letter-cell (now (self .entry) .letter) .value) ⌝ }
     {
         match self.letter {
-            Some(reading_type) => reading_type.letter(),
+            Some(reading_type) => fields::letter_of(reading_type),
             None => b' ',
         }
     }

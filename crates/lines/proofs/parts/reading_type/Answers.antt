@@ -7,4 +7,4 @@ use Rattle.lines.proofs.parts.reading_type.Needs as need
 
 pub returns : need.returns
 returns c =
-    part-read (part reading-type 44 (c .args .line .now)) _ _ _ _ (letter-piece (c .args .line .now) (search needs)) refl (c .from-letter .ensures) (c .placed .ensures)
+    part-read (part reading-type 44 (c .args .line .now)) _ _ _ _ (letter-piece (c .args .line .now) (search needs)) refl (c .type-of-letter .ensures) (c .placed .ensures)
