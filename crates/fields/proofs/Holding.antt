@@ -1,7 +1,7 @@
 -- Each kind of field holds texts of one sort. Assumes nothing.
 use mathlib.Core.Path.{_≡_, refl, sym, ap, subst, _∙_}
-use mathlib.Core.Bool.{Bool, true, false, not, cond, _&&_, _||_}
-use mathlib.Core.List.{List, [], _∷_, _++_}
+use mathlib.Core.Bool.{Bool, true, false, not, cond, _&&_}
+use mathlib.Core.List.{List, _++_}
 use Prim.Native.Nat.{ℕ, zero, suc, _+_, _-_, _^_, _<_, _≤_}
 use native.Mathlib.Omega.{arith}
 use native.Mathlib.Nat.{pow-le-pow-right}
@@ -22,12 +22,12 @@ use Rattle.refusals.specs.Numbers.{number-of}
 use Rattle.refusals.specs.declared.refusal.Refusal.{Refusal}
 use Rattle.refusals.specs.declared.refusal.Refusal.the-variants.{MalformedLine}
 use Rattle.fields.specs.Reads.{Reads}
-use Rattle.fields.specs.Columns.{right-aligned, digits-kept, number-columns, signed-columns, date-columns, blank-columns, number-fits, signed-fits, date-fits}
+use Rattle.fields.specs.Columns.{right-aligned, number-columns, signed-columns, date-columns, blank-columns, number-fits, signed-fits, date-fits}
 use Rattle.fields.specs.Texts.{sign, columns-of, text-columns, text-fits, plain, plain-text, number-text, signed-text, signed-value, date-text, dated, blank-text}
 use Rattle.fields.specs.declared.text.Text.{Text}
 use Rattle.fields.proofs.Exits.{broken}
 use Rattle.fields.proofs.Placing.{parts-of-fit}
-use Rattle.fields.proofs.Decimal.{Shown, shown, digits-unique}
+use Rattle.fields.proofs.Decimal.{shown, digits-unique}
 use Rattle.fields.proofs.Scanning.{length-columns, same-text}
 
 -- what is written of a value that fits is the columns of a text of the sort, and each text of the sort is of such a value

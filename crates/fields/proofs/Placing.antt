@@ -1,12 +1,12 @@
 -- How a sign and digits come to stand in ten columns. Assumes nothing.
-use mathlib.Core.Path.{_≡_, refl, sym, ap, _∙_}
-use mathlib.Core.Bool.{Bool, true, false, cond, _&&_}
-use mathlib.Core.List.{List, [], _∷_, _++_, append-assoc}
-use Prim.Native.Nat.{ℕ, zero, suc, _+_, _-_, _/_, _%_, _^_, _<_, _≤_}
+use mathlib.Core.Path.{_≡_}
+use mathlib.Core.Bool.{true, false, cond}
+use mathlib.Core.List.{List, _∷_, _++_, append-assoc}
+use Prim.Native.Nat.{ℕ, suc, _+_, _-_, _/_, _%_, _^_, _<_, _≤_}
 use native.Mathlib.Nat.{pow-suc, div-div-eq-div-mul}
 use native.Mathlib.Omega.{arith}
-use lib.Dec.{T, leb, ltb}
-use lib.ListN.{length, set, replicate, length-replicate}
+use lib.Dec.{T}
+use lib.ListN.{set, replicate, length-replicate}
 use Rattle.std.proofs.shelf.Lists.{set-at, replicate-more}
 use Rattle.std.proofs.shelf.Ways.{tells}
 use Rattle.fields.specs.Columns.{digits-kept}

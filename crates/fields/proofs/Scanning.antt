@@ -1,7 +1,7 @@
 -- A field is cut at its spaces and its minus in one way. Assumes nothing.
-use mathlib.Core.Path.{_≡_, refl, sym, ap, subst, _∙_}
+use mathlib.Core.Path.{_≡_, refl, sym, ap, _∙_}
 use mathlib.Core.Bool.{Bool, true, false, cond, _&&_}
-use mathlib.Core.List.{List, [], _∷_, _++_}
+use mathlib.Core.List.{List, _++_}
 use Prim.Native.Nat.{ℕ, zero, suc, _+_, _-_, _^_, _<_, _≤_}
 use native.Mathlib.Nat.{add-zero}
 use native.Mathlib.Omega.{arith}
@@ -15,7 +15,7 @@ use Rattle.std.proofs.shelf.Ways.{tells}
 use Rattle.fields.specs.Columns.{digits-kept}
 use Rattle.fields.specs.Texts.{sign, columns-of, text-columns, text-fits}
 use Rattle.fields.specs.declared.text.Text.{Text}
-use Rattle.fields.proofs.Digits.{length-kept, kept-digit, same-from-kept}
+use Rattle.fields.proofs.Digits.{length-kept, same-from-kept}
 use Rattle.fields.proofs.Spaces.{spaces-apart}
 use Rattle.fields.proofs.Placing.{parts-of-fit}
 

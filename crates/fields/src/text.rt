@@ -1,7 +1,6 @@
 ghost use mathlib.Core.Path.{_≡_};
-ghost use mathlib.Core.Bool.{true};
 ghost use mathlib.Core.List.{_++_};
-ghost use Prim.Native.Nat.{ℕ, _^_, _<_, _≤_};
+ghost use Prim.Native.Nat.{_^_, _≤_};
 ghost use lib.Dec.{T, eqb, ltb};
 ghost use lib.ListN.{length, getD, replicate, drop};
 ghost use Rattle.std.specs.Written.{decimal};

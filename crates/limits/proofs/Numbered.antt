@@ -1,16 +1,14 @@
 -- Bytes that are refused, at the exit of a `?`. Assumes nothing.
-use mathlib.Core.Path.{_≡_, sym, ap, subst, _∙_}
+use mathlib.Core.Path.{_≡_, sym, subst}
 use mathlib.Core.Bool.{true}
 use mathlib.Core.List.{List}
 use mathlib.Core.Logic.{inl, inr}
 use Prim.Native.Nat.{ℕ}
-use lib.Dec.{T}
 use Rattle.std.specs.Results.{isErr, ErrBy}
 use Rattle.std.specs.declared.result.Result.{Result}
 use Rattle.std.specs.declared.result.Result.the-variants.{Ok, Err}
 use Rattle.lines.specs.Reading.{LineRead}
 use Rattle.lines.specs.declared.fault.Fault.{Fault}
-use Rattle.records.specs.Records.{record-fits, written}
 use Rattle.records.specs.declared.record.Record.{Record}
 use Rattle.limits.specs.Judging.{told, verdict}
 use Rattle.limits.specs.Lines.{Checked}

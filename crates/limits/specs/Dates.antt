@@ -1,12 +1,12 @@
 -- Whether the dates of a record exist, and a book ends in time.
 use mathlib.Core.Bool.{Bool, true, not, _||_}
-use mathlib.Core.List.{List, [], _∷_, map}
+use mathlib.Core.List.{List, map}
 use Prim.Native.Nat.{ℕ, _+_, _-_}
 use lib.Dec.{leb}
 use lib.ListN.{take}
 use Rattle.calendar.specs.Digits.{is-date, day-number-of}
 use Rattle.fields.specs.Kinds.{Kind, Held, number, signed, date, blank, reading-type, no-letter}
-use Rattle.records.specs.Records.{Cell, cells}
+use Rattle.records.specs.Records.{cells}
 use Rattle.records.specs.declared.record.Record.{Record}
 
 -- the last day of a book with this first date is 30 December 2099 at the latest, if there is such a first date

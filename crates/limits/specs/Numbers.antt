@@ -3,7 +3,7 @@ use mathlib.Core.Bool.{Bool, true, not, _&&_, _||_}
 use mathlib.Core.List.{List, [], _∷_}
 use Prim.Native.Nat.{ℕ}
 use lib.Dec.{leb}
-use lib.IntN.{ℤ, pos, negsuc}
+use lib.IntN.{pos, negsuc}
 use Rattle.fields.specs.Kinds.{Kind, Held, number, signed, date, blank, reading-type, no-letter}
 use Rattle.records.specs.Records.{Cell, cells, tag-of}
 use Rattle.records.specs.declared.record.Record.{Record}

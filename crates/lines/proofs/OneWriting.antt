@@ -2,13 +2,13 @@
 use mathlib.Core.Path.{_≡_, refl, sym, ap, subst, _∙_}
 use mathlib.Core.Bool.{Bool, true, false, cond, _&&_}
 use mathlib.Core.List.{List, [], _∷_, _++_, map, append-assoc, head-eq-of-cons-eq, tail-eq-of-cons-eq}
-use Prim.Native.Nat.{ℕ, _+_, _-_, _<_}
-use native.Mathlib.Nat.{add-zero, add-assoc}
+use Prim.Native.Nat.{ℕ, _+_, _-_}
 use native.Mathlib.Omega.{arith}
 use lib.Dec.{T, eqb}
 use lib.IntN.{ℤ, pos}
 use lib.ListN.{length, getD, take, drop, length-append}
 use Rattle.std.specs.Results.{isErr, ErrBy}
+use Rattle.std.specs.Vec.{refused}
 use Rattle.std.specs.shelf.Lists.{joined}
 use Rattle.std.specs.declared.result.Result.{Result}
 use Rattle.std.specs.declared.result.Result.the-variants.{Ok, Err}
@@ -19,9 +19,9 @@ use Rattle.fields.specs.Kinds.{Kind, Held, width, fits, columns, number, signed
 use Rattle.readings.specs.declared.ReadingType.{ReadingType}
 use Rattle.readings.specs.declared.ReadingType.the-variants.{Actual}
 use Rattle.fields.proofs.KindLaws.{length-columns, told}
-use Rattle.lines.specs.Parts.{Part, part, parts, Good, Leftmost, Stands, here, further}
+use Rattle.lines.specs.Parts.{Part, part, parts, Leftmost, Stands, here, further}
 use Rattle.lines.specs.Reading.{LineRead, RecordRead, WrittenAgain, At-fault, wrong-length, unknown-tag, wrong-part}
-use Rattle.records.specs.Records.{Cell, cell, cells, unused, tag-of, all-fit, line-of, record-fits, written}
+use Rattle.records.specs.Records.{Cell, cell, cells, unused, tag-of, all-fit, record-fits, written}
 use Rattle.records.specs.Tags.{tag-bytes, layout}
 use Rattle.lines.specs.Whole.{whole, fed}
 use Rattle.lines.specs.declared.fault.Fault.{Fault}
@@ -226,6 +226,30 @@ same-record r s h k e =
 pub reads-back : (bytes : List ℕ) (r : Result Record Fault) → LineRead bytes r → (x : Record) → T (record-fits x) → bytes ≡ written x → r ≡ Ok x
 reads-back bytes (Ok y) p x h e = ap Ok (same-record y x (p .0) h (sym (p .1) ∙ e))
 reads-back bytes (Err f) p x h e = absurd (written-sound x h (f .column) (subst (λ b. At-fault b (f .column)) e (p .1)))
+
+-- a line is at fault at one column
+leftmost-once : (ps : List Part) (c d : ℕ) → Leftmost ps c → Leftmost ps d → c ≡ d
+leftmost-once [] c d l m = elim l [ ]
+leftmost-once (p ∷ ps) c d (here e bad) (here f worse) = e ∙ sym f
+leftmost-once (p ∷ ps) c d (here e bad) (further good m) = absurd (bad good)
+leftmost-once (p ∷ ps) c d (further good l) (here f bad) = absurd (bad good)
+leftmost-once (p ∷ ps) c d (further good l) (further fine m) = leftmost-once ps c d l m
+
+fault-once : (line : List ℕ) (c d : ℕ) → At-fault line c → At-fault line d → c ≡ d
+fault-once line c d (wrong-length w e) (wrong-length v f) = e ∙ sym f
+fault-once line c d (wrong-length w e) (unknown-tag v n f) = absurd (both-ways (whole line) w v)
+fault-once line c d (wrong-length w e) (wrong-part t v tag l) = absurd (both-ways (whole line) w v)
+fault-once line c d (unknown-tag w n e) (wrong-length v f) = absurd (both-ways (whole line) v w)
+fault-once line c d (unknown-tag w n e) (unknown-tag v m f) = e ∙ sym f
+fault-once line c d (unknown-tag w n e) (wrong-part t v tag l) = absurd (n t tag)
+fault-once line c d (wrong-part t w tag l) (wrong-length v f) = absurd (both-ways (whole line) v w)
+fault-once line c d (wrong-part t w tag l) (unknown-tag v n f) = absurd (n t tag)
+fault-once line c d (wrong-part t w tag l) (wrong-part u v gat m) =
+    leftmost-once (parts (layout u) 4 line) c d (subst (λ s. Leftmost (parts (layout s) 4 line) c) (same-tag t u (sym tag ∙ gat)) l) m
+
+pub one-column : (bytes : List ℕ) (r : Result Record Fault) → LineRead bytes r → refused r (λ f. (c : ℕ) → At-fault bytes c → c ≡ f .column)
+one-column bytes (Ok x) p = tt
+one-column bytes (Err f) p = λ c a. fault-once bytes c (f .column) a (p .1)
 
 -- how a line comes to be read: refused at the exit of a `?`, or by what its record was read as
 pub line-refused : (bytes : List ℕ) (r : Result Record Fault) (f : Fault) → (isErr r ≡ true) × ErrBy r (λ y. y ≡ f) → number-of (f .refusal) ≡ 1 → At-fault bytes (f .column) → LineRead bytes r

@@ -1,8 +1,8 @@
 -- The parts of a line, read one by one. Assumes nothing.
-use mathlib.Core.Path.{_≡_, refl, sym, ap, subst, _∙_}
+use mathlib.Core.Path.{_≡_, sym, ap, subst, _∙_}
 use mathlib.Core.Bool.{Bool, true, false, _&&_}
 use mathlib.Core.List.{List, [], _∷_, _++_, append-assoc}
-use Prim.Native.Nat.{ℕ, _+_, _-_, _<_}
+use Prim.Native.Nat.{ℕ, _+_, _-_}
 use native.Mathlib.Nat.{add-zero, add-assoc}
 use native.Mathlib.Omega.{arith}
 use lib.Dec.{T, eqb}
@@ -13,7 +13,6 @@ use Rattle.std.specs.declared.result.Result.{Result}
 use Rattle.std.specs.declared.result.Result.the-variants.{Ok, Err}
 use Rattle.std.proofs.shelf.Lists.{take-append-drop, drop-drop, drop-more, drop-all}
 use Rattle.std.proofs.shelf.Tests.{and-parts, eqb-true}
-use Rattle.refusals.specs.Numbers.{number-of}
 use Rattle.refusals.specs.declared.refusal.Refusal.{Refusal}
 use Rattle.fields.specs.Kinds.{Kind, Held, width, fits, columns, blank, no-letter}
 use Rattle.fields.specs.Reads.{Reads}

@@ -1,9 +1,11 @@
 ghost use mathlib.Core.Path.{_≡_};
 ghost use mathlib.Core.Bool.{true};
 ghost use lib.Dec.{T};
+ghost use Prim.Native.Nat.{ℕ};
 ghost use lib.ListN.{take};
+ghost use Rattle.std.specs.Vec.{refused};
 ghost use Rattle.std.specs.declared.result.Result.the-variants.{Ok};
-ghost use Rattle.lines.specs.Reading.{RecordRead, LineRead};
+ghost use Rattle.lines.specs.Reading.{RecordRead, LineRead, At-fault};
 ghost use Rattle.records.specs.Records.{record-fits, written};
 ghost use Rattle.records.specs.Tags.{tag-bytes};
 ghost use Rattle.lines.specs.Whole.{whole};
@@ -159,6 +161,7 @@ fn record_of(tag: Tag, line: &[u8; 46]) -> Result<Record, Fault>
 pub fn read_line(bytes: &[u8]) -> Result<Record, Fault>
     ensures read { λ r. ⌜ LineRead (now (bytes .entry)) r ⌝ }
     ensures reads_back { λ r. ⌜ ((x : Record) → T (record-fits x) → now (bytes .entry) ≡ written x → r ≡ Ok x) ⌝ }
+    ensures one_column { λ r. ⌜ refused r (λ f. (c : ℕ) → At-fault (now (bytes .entry)) c → c ≡ f .column) ⌝ }
 {
     let line = whole_line(bytes)?;
     let tag = tag_of(line)?;

@@ -1,10 +1,8 @@
 ghost use mathlib.Core.Path.{_≡_};
-ghost use mathlib.Core.List.{[], _∷_, _++_};
 ghost use Rattle.refusals.specs.Answers.{Answers};
 ghost use Rattle.fields.specs.Kinds.{fits, columns};
-ghost use Rattle.records.specs.Layouts.{cell-of, letter-cell, layout-cells};
+ghost use Rattle.records.specs.Layouts.{cell-of, layout-cells};
 ghost use Rattle.records.specs.Records.{cells, tag-of};
-ghost use Rattle.records.specs.Tags.{tag-bytes};
 use super::record::Record;
 use super::tag::Tag;
 use readings::ReadingType;

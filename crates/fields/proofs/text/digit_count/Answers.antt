@@ -1,9 +1,5 @@
-use mathlib.Core.Path.{_≡_, ap, _∙_}
-use Prim.Native.Nat.{_+_, _/_, _<_, _^_}
 use native.Mathlib.Omega.{arith}
-use lib.ListN.{length}
-use Rattle.std.specs.Written.{decimal}
-use Rattle.std.proofs.shelf.Decimals.{decimal-some, length-decimal-le}
+use Rattle.std.proofs.shelf.Decimals.{length-decimal-le}
 use Rattle.fields.proofs.Decimal.{length-more, length-one}
 use Rattle.fields.proofs.text.digit_count.Needs as need
 

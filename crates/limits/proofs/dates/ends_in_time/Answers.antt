@@ -1,4 +1,3 @@
-use mathlib.Core.Path.{ap, _∙_}
 use borrow.Author.Needs.{needs}
 use Rattle.limits.proofs.Ends.{ends-by-sum, ends-unknown}
 use Rattle.limits.proofs.dates.ends_in_time.Needs as need

@@ -1,4 +1,4 @@
-use Rattle.lines.proofs.Pieces.{at, past, rest-refused, rest-read}
+use Rattle.lines.proofs.Pieces.{at, rest-refused, rest-read}
 use Rattle.lines.proofs.parts.rest_unused.Needs as need
 
 pub returns-in-Break-blank : need.returns-in-Break-blank

@@ -1,7 +1,7 @@
 use mathlib.Core.Path.{refl, ap, _∙_}
 use lib.ListN.{length}
 use Rattle.fields.proofs.Exits.{broken}
-use Rattle.fields.proofs.Scanning.{Cut, length-columns, cut-at, scan-found, scan-lost}
+use Rattle.fields.proofs.Scanning.{length-columns, cut-at, scan-found, scan-lost}
 use Rattle.fields.proofs.text.Text.scan.Needs as need
 
 pub returns-then-columns-ne10 : need.returns-then-columns-ne10
