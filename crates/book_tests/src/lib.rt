@@ -1,4 +1,5 @@
 // Tests of the book: it is proved in its own crate, and only run here.
+#![tactic(auto)]
 #[cfg(test)]
 mod at_random;
 #[cfg(test)]

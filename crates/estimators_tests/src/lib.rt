@@ -1,4 +1,5 @@
 // The estimators at the edges of their limits, alone and in layers.
+#![tactic(auto)]
 #[cfg(test)]
 mod asked;
 #[cfg(test)]

@@ -1,4 +1,5 @@
 // What a book has been told, and what the rules make of it.
+#![tactic(auto)]
 mod call;
 mod entry;
 

@@ -1,4 +1,5 @@
 // Estimates by hot water: litres metered over some days, carried to a day of another season.
+#![tactic(auto)]
 mod figures;
 mod hot_water;
 mod season;

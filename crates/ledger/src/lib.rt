@@ -1,4 +1,5 @@
 // What a book has been told: gates, interval energies, enrolments and held readings.
+#![tactic(auto)]
 mod access;
 mod asks;
 mod covered;

@@ -1,4 +1,5 @@
 // Whether the numbers of a record are within their limits, and its dates exist.
+#![tactic(auto)]
 mod check;
 mod dates;
 mod limits;

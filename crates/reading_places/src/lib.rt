@@ -1,4 +1,5 @@
 // The places of held readings: counting, freeing and taking them.
+#![tactic(auto)]
 mod counting;
 mod replacing;
 

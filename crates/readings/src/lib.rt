@@ -1,4 +1,5 @@
 // The types of readings.
+#![tactic(auto)]
 ghost use Rattle.std.specs.Prelude.{◌≡◌};
 ghost use Rattle.readings.specs.Types.{firm};
 

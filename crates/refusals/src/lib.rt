@@ -1,4 +1,5 @@
 // Why a line or a call is refused: one case for each reason, in the order in which the checks run.
+#![tactic(auto)]
 mod layer;
 mod refusal;
 

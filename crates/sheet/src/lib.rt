@@ -1,4 +1,5 @@
 // The daily figures of every point, kept as a book is told things.
+#![tactic(auto)]
 mod asking;
 mod cells;
 mod day_figures;

@@ -1,4 +1,5 @@
 // The weather of a day, as the stations tell it, and what to say of it.
+#![tactic(auto)]
 mod answer;
 mod limited;
 mod reckoning;

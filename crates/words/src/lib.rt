@@ -1,4 +1,5 @@
 // Numbers in the words of a command line.
+#![tactic(auto)]
 mod numbers;
 mod reading;
 

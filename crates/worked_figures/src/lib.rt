@@ -1,4 +1,5 @@
 // The figures worked by hand, proved of the definitions that every promise cites.
+#![tactic(auto)]
 ghost use Rattle.worked_figures.specs.Figures.{WorkedFigures};
 
 // The figures hold; there is nothing to compute.
