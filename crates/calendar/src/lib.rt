@@ -1,5 +1,6 @@
 // The dates from 1 January 2001 to 31 December 2099, as eight digits and as day numbers.
 #![tactic(auto)]
+
 mod date;
 mod day_numbers;
 mod digits;

@@ -1,5 +1,6 @@
 // Heating degree days: how much a day's weather calls for heating, from what the weather stations observed.
 #![tactic(auto)]
+
 mod observations;
 mod season;
 mod terms;

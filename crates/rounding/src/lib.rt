@@ -1,5 +1,6 @@
 // Rounding to the nearest whole number.
 #![tactic(auto)]
+
 ghost use Rattle.std.specs.Prelude.{◌≡◌, ◌+◌, ◌≤◌, nat_le, nat_lt};
 ghost use Rattle.refusals.specs.Answers.{Answers};
 ghost use Rattle.rounding.specs.Nearest.{nearest};

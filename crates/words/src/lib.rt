@@ -1,5 +1,6 @@
 // Numbers in the words of a command line.
 #![tactic(auto)]
+
 mod numbers;
 mod reading;
 

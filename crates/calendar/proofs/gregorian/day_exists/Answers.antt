@@ -3,9 +3,9 @@ use Rattle.std.proofs.lemmas.Bool.Decides.{nat_tests}
 use Rattle.calendar.specs.Gregorian.{exists}
 use Rattle.calendar.proofs.gregorian.day_exists.Goals as goal
 
-pub returns-then-year-lt-FIRST-YEAR : goal.returns-then-year-lt-FIRST-YEAR
+pub returns-then-year-lt-FIRST_YEAR : goal.returns-then-year-lt-FIRST_YEAR
 unfolding exists
-returns-then-year-lt-FIRST-YEAR c = grind (arith, nat_tests)
+returns-then-year-lt-FIRST_YEAR c = grind (arith, nat_tests)
 
 pub returns-then-day-ge1 : goal.returns-then-day-ge1
 unfolding exists

@@ -5,10 +5,10 @@ use Rattle.degree_days.proofs.Limits.{temperature_bounds}
 use Rattle.degree_days.proofs.Passes.{folded_none, folded_next, folded_end, folded_stop}
 use Rattle.degree_days.proofs.observations.temperature_sum.Goals as goal
 
-pub returns-then-not-temperature-within : goal.returns-then-not-temperature-within
-returns-then-not-temperature-within c =
+pub returns-then-not-temperature_within : goal.returns-then-not-temperature_within
+returns-then-not-temperature_within c =
     let fits : SFits w32 (get_or c.args.temperatures.now c.loop-t.t-index (pos 0)) = search rules in
-    let there : false ≡ temperature_within (get_or c.args.temperatures.now c.loop-t.t-index (pos 0)) = simp to_z-of_z at c.if-not-temperature-within.ensures in
+    let there : false ≡ temperature_within (get_or c.args.temperatures.now c.loop-t.t-index (pos 0)) = simp to_z-of_z at c.if-not-temperature_within.ensures in
     record { answer = folded_stop temperature_within ◌+ℤ◌ (pos 0) c.args.temperatures.now c.loop-t.t-index (pos 0) (omega arith) there; bounds = tt }
 
 pub loop-t-init : goal.loop-t-init
@@ -17,7 +17,7 @@ loop-t-init c = (folded_none _ _ _ _, search rules, search rules)
 pub loop-t-preserved : goal.loop-t-preserved
 loop-t-preserved c =
     let fits : SFits w32 (get_or c.args.temperatures.now c.loop-t.t-index (pos 0)) = search rules in
-    let there : true ≡ temperature_within (get_or c.args.temperatures.now c.loop-t.t-index (pos 0)) = simp to_z-of_z at c.if-not-temperature-within.ensures in
+    let there : true ≡ temperature_within (get_or c.args.temperatures.now c.loop-t.t-index (pos 0)) = simp to_z-of_z at c.if-not-temperature_within.ensures in
     let bounds = temperature_bounds (get_or c.args.temperatures.now c.loop-t.t-index (pos 0)) there in (
       folded_next _ _ _ _ _ _ _ _ (omega arith) c.loop-t.invariant.0 there (omega (arith, ints)),
       omega (arith, ints),

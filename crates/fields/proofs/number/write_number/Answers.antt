@@ -6,10 +6,10 @@ use Rattle.fields.proofs.number.write_number.Goals as goal
 
 pub columns-requires : goal.columns-requires
 columns-requires c =
-    subst (λ t. T (text_fits t)) (sym c.plain_text.ensures) (number_room c.args.value (lt→ltb _ _ (omega arith)))
+    subst (λ t. T (text_fits t)) (sym c.plain-text.ensures) (number_room c.args.value (lt→ltb _ _ (omega arith)))
 
 pub returns : goal.returns
 returns c =
     written _ _ _ 3
     (lt-ltb _ _ (omega arith))
-    (c.columns.ensures ∙ ap text_columns c.plain_text.ensures ∙ sym (number_same c.args.value (lt→ltb _ _ (omega arith))))
+    (c.columns.ensures ∙ ap text_columns c.plain-text.ensures ∙ sym (number_same c.args.value (lt→ltb _ _ (omega arith))))

@@ -14,11 +14,11 @@ made z n t fits e f = f ∙ rw (e, to_z-of_z) (signed_plain_is z)
 pub columns-requires : goal.columns-requires
 columns-requires c =
     let fit : signed_fits c.args.value ≡ true = signed_limits c.args.value (omega (arith, ints)) (omega (arith, ints)) in
-    let text = made c.args.value _ _ c.ranges.value c.unsigned-abs.ensures.value c.plain_text.ensures in
+    let text = made c.args.value _ _ c.ranges.value c.unsigned_abs.ensures.value c.plain-text.ensures in
     subst (λ t. T (text_fits t)) (sym text) (signed_room c.args.value (subst T (sym fit) tt))
 
 pub returns : goal.returns
 returns c =
     let fit : signed_fits c.args.value ≡ true = signed_limits c.args.value (omega (arith, ints)) (omega (arith, ints)) in
-    let text = made c.args.value _ _ c.ranges.value c.unsigned-abs.ensures.value c.plain_text.ensures in
+    let text = made c.args.value _ _ c.ranges.value c.unsigned_abs.ensures.value c.plain-text.ensures in
     written _ _ _ 3 fit (c.columns.ensures ∙ ap text_columns text ∙ sym (signed_same c.args.value (subst T (sym fit) tt)))

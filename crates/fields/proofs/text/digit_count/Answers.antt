@@ -3,8 +3,8 @@ use Rattle.std.proofs.lemmas.Fmt.{length-decimal-le}
 use Rattle.fields.proofs.Decimal.{length_more, length_one}
 use Rattle.fields.proofs.text.digit_count.Goals as goal
 
-pub overflow-add-digits : goal.overflow-add-digits
-overflow-add-digits c =
+pub overflow_add-digits : goal.overflow_add-digits
+overflow_add-digits c =
     omega (arith, length-decimal-le 20 c.args.value (omega arith) (omega arith) (omega arith))
 
 pub loop-rest-preserved : goal.loop-rest-preserved

@@ -4,9 +4,9 @@ use Rattle.calendar.proofs.Answered.{no_such_date}
 use Rattle.calendar.proofs.Shown.{found_by_digits}
 use Rattle.calendar.proofs.date.Date.from_digits.Goals as goal
 
-pub returns-then-day-exists : goal.returns-then-day-exists
-returns-then-day-exists c = found_by_digits _ _ (omega arith)
+pub returns-then-day_exists : goal.returns-then-day_exists
+returns-then-day_exists c = found_by_digits _ _ (omega arith)
 
-pub returns-else-day-exists : goal.returns-else-day-exists
+pub returns-else-day_exists : goal.returns-else-day_exists
 unfolding is_date
-returns-else-day-exists c = no_such_date _ (grind (arith, c.if-day-exists.ensures))
+returns-else-day_exists c = no_such_date _ (grind (arith, c.if-day_exists.ensures))

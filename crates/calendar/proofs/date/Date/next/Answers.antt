@@ -6,26 +6,26 @@ use Rattle.calendar.proofs.Numbers.{found, past_all_days}
 use Rattle.calendar.proofs.Years.{days_before_next_year, days_before_year_is}
 use Rattle.calendar.proofs.date.Date.next.Goals as goal
 
-pub month-length-requires : goal.month-length-requires
-month-length-requires c = let within = dated c.args.self in (omega arith, omega arith)
+pub month_length-requires : goal.month_length-requires
+month_length-requires c = let within = dated c.args.self in (omega arith, omega arith)
 
-pub invariant-of-result : goal.invariant-of-result
-invariant-of-result c =
+pub invariant_of-result : goal.invariant_of-result
+invariant_of-result c =
     let within = dated c.args.self in
-    (exists_from _ _ _ (omega arith) (omega arith) (omega arith) (omega arith) (omega arith) (omega arith), tt)
+    record { real = exists_from _ _ _ (omega arith) (omega arith) (omega arith) (omega arith) (omega arith) (omega arith) }
 
-pub invariant-of-result-then-month-lt12 : goal.invariant-of-result-then-month-lt12
-invariant-of-result-then-month-lt12 c =
+pub invariant_of-result-then-month-lt12 : goal.invariant_of-result-then-month-lt12
+invariant_of-result-then-month-lt12 c =
     let within = dated c.args.self in
-    (exists_from _ _ _ (omega arith) (omega arith) (omega arith) (omega arith) (omega arith) (omega (arith, month_length_at_least)), tt)
+    record { real = exists_from _ _ _ (omega arith) (omega arith) (omega arith) (omega arith) (omega arith) (omega (arith, month_length_at_least)) }
 
-pub invariant-of-result-then-year-lt-LAST-YEAR : goal.invariant-of-result-then-year-lt-LAST-YEAR
-invariant-of-result-then-year-lt-LAST-YEAR c =
+pub invariant_of-result-then-year-lt-LAST_YEAR : goal.invariant_of-result-then-year-lt-LAST_YEAR
+invariant_of-result-then-year-lt-LAST_YEAR c =
     let within = dated c.args.self in
-    (exists_from _ _ _ (omega arith) (omega arith) (omega arith) (omega arith) (omega arith) (omega (arith, month_length_at_least)), tt)
+    record { real = exists_from _ _ _ (omega arith) (omega arith) (omega arith) (omega arith) (omega arith) (omega (arith, month_length_at_least)) }
 
-pub returns-then-day-month-length : goal.returns-then-day-month-length
-returns-then-day-month-length c =
+pub returns-then-day-month_length : goal.returns-then-day-month_length
+returns-then-day-month_length c =
     let within = dated c.args.self in
     found _ (number_of c.args.self + 1) (omega arith)
 
@@ -34,14 +34,14 @@ returns-then-month-lt12 c =
     let within = dated c.args.self in
     found _ (number_of c.args.self + 1) (omega (arith, days_before_next_month))
 
-pub returns-then-year-lt-LAST-YEAR : goal.returns-then-year-lt-LAST-YEAR
-returns-then-year-lt-LAST-YEAR c =
+pub returns-then-year-lt-LAST_YEAR : goal.returns-then-year-lt-LAST_YEAR
+returns-then-year-lt-LAST_YEAR c =
     let within = dated c.args.self in
     let december = december_ends c.args.self.year c.args.self.month (omega arith) in
     found _ (number_of c.args.self + 1) (omega (arith, days_before_next_year, days_before_january))
 
-pub returns-else-year-lt-LAST-YEAR : goal.returns-else-year-lt-LAST-YEAR
-returns-else-year-lt-LAST-YEAR c =
+pub returns-else-year-lt-LAST_YEAR : goal.returns-else-year-lt-LAST_YEAR
+returns-else-year-lt-LAST_YEAR c =
     let within = dated c.args.self in
     let december = december_ends c.args.self.year c.args.self.month (omega arith) in
     let last = days_before_year_is (c.args.self.year + 1) (omega arith) (omega arith) in

@@ -7,15 +7,15 @@ pub returns-then-columns-ne10 : goal.returns-then-columns-ne10
 returns-then-columns-ne10 c = (refl, λ t h e. c.if-columns-ne10.true (ap length e ∙ length_columns t h))
 
 -- the columns are cut behind their spaces and their minus
-pub returns-in-err-value : goal.returns-in-err-value
-returns-in-err-value c =
-    let q = c.in-err-value.ensures in
-    let spaces = c.leading-spaces-spaces.ensures in
-    let cut = cut_at _ _ _ c.if-columns-ne10.false spaces.within spaces.spaces spaces.past c.begins-with-minus-minus.ensures in
-    broken _ _ _ _ _ c.from-residual.ensures q.0 (λ t h e. let p = scan_lost _ _ _ _ t cut c.from.ensures h e in q.1 t.value p.0 p.1)
+pub returns-in_err-value : goal.returns-in_err-value
+returns-in_err-value c =
+    let q = c.in_err-value.ensures in
+    let spaces = c.leading_spaces-spaces.ensures in
+    let cut = cut_at _ _ _ c.if-columns-ne10.false spaces.within spaces.spaces spaces.past c.begins_with_minus-minus.ensures in
+    broken _ _ _ _ _ c.from_residual.ensures q.0 (λ t h e. let p = scan_lost _ _ _ _ t cut c.from.ensures h e in q.1 t.value p.0 p.1)
 
 pub returns : goal.returns
 returns c =
-    let spaces = c.leading-spaces-spaces.ensures in
-    let cut = cut_at _ _ _ c.if-columns-ne10.false spaces.within spaces.spaces spaces.past c.begins-with-minus-minus.ensures in
-    scan_found _ _ _ _ _ cut c.from.ensures c.in-ok-value.ensures
+    let spaces = c.leading_spaces-spaces.ensures in
+    let cut = cut_at _ _ _ c.if-columns-ne10.false spaces.within spaces.spaces spaces.past c.begins_with_minus-minus.ensures in
+    scan_found _ _ _ _ _ cut c.from.ensures c.in_ok-value.ensures
