@@ -1,5 +1,6 @@
 // Estimates by hot water: litres metered over some days, carried to a day of another season.
 #![tactic(auto)]
+
 mod figures;
 mod hot_water;
 mod season;

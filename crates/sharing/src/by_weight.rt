@@ -21,9 +21,9 @@ struct Progress {
 // Shares an amount over rows by their weights: each takes what falls to the weights up to its own, less what has
 // fallen to those before. The shares add up to the amount.
 pub fn share<R: Row>(amount: u64, rows: &mut [R]) -> Result<(), Refusal>
-    ensures answer { AcceptedWhen result (can_share heaviest amount (map weighs rows.old)) 3 }
-    ensures rows { rows.new ≡ (if can_share heaviest amount (map weighs rows.old) then handed taking rows.old (shares amount (map weighs rows.old)) else rows.old) }
-    ensures keeps { Keeps amount (map weighs rows.old) (shares amount (map weighs rows.old)) }
+    ensures answer { AcceptedWhen result (can_share R.heaviest amount (map R.weighs rows.old)) 3 }
+    ensures rows { rows.new ≡ (if can_share R.heaviest amount (map R.weighs rows.old) then handed R.taking rows.old (shares amount (map R.weighs rows.old)) else rows.old) }
+    ensures keeps { Keeps amount (map R.weighs rows.old) (shares amount (map R.weighs rows.old)) }
 {
     let Some(total) = total_to_share_over(amount, rows) else {
         return Err(Refusal::BeyondLimits);
@@ -41,11 +41,11 @@ pub fn share<R: Row>(amount: u64, rows: &mut [R]) -> Result<(), Refusal>
 // One row takes its share: what falls to the weights with its own, less what has fallen before.
 fn take_share<R: Row>(row: &mut R, amount: u64, total: u64, before: Progress) -> Progress
     requires some { 0 < total }
-    requires fits { amount * min (before.running + weighs row.old) (2 ^ 64 - 1) < 2 ^ 64 }
-    requires grows { before.fallen ≤ amount * min (before.running + weighs row.old) (2 ^ 64 - 1) / total }
-    ensures running { result.running ≡ min (before.running + weighs row.old) (2 ^ 64 - 1) }
+    requires fits { amount * min (before.running + R.weighs row.old) (2 ^ 64 - 1) < 2 ^ 64 }
+    requires grows { before.fallen ≤ amount * min (before.running + R.weighs row.old) (2 ^ 64 - 1) / total }
+    ensures running { result.running ≡ min (before.running + R.weighs row.old) (2 ^ 64 - 1) }
     ensures fallen { result.fallen ≡ amount * result.running / total }
-    ensures taken { row.new ≡ taking row.old (result.fallen - before.fallen) }
+    ensures taken { row.new ≡ R.taking row.old (result.fallen - before.fallen) }
 {
     let running = before.running.saturating_add(row.weight());
     let fallen = amount * running / total;
@@ -55,7 +55,7 @@ fn take_share<R: Row>(row: &mut R, amount: u64, total: u64, before: Progress) ->
 
 // The sum of the weights, capped at the largest u64, where the amount can be shared over the rows.
 fn total_to_share_over<R: Row>(amount: u64, rows: &[R]) -> Option<u64>
-    ensures { MatchOption result (can_share heaviest amount (map weighs rows.now) ≡ false) (λ total. (can_share heaviest amount (map weighs rows.now) ≡ true) × (total ≡ min (sum (map weighs rows.now)) (2 ^ 64 - 1))) }
+    ensures { MatchOption result (can_share R.heaviest amount (map R.weighs rows.now) ≡ false) (λ total. (can_share R.heaviest amount (map R.weighs rows.now) ≡ true) × (total ≡ min (sum (map R.weighs rows.now)) (2 ^ 64 - 1))) }
 {
     let total = total_weight(rows);
     let small = product_within(amount, rows.len(), R::limit());
@@ -68,7 +68,7 @@ fn total_to_share_over<R: Row>(amount: u64, rows: &[R]) -> Option<u64>
 
 // The sum of the weights, or the largest u64 where it is more: an amount above 0 is then refused, and 0 falls as 0.
 fn total_weight<R: Row>(rows: &[R]) -> u64
-    ensures { result ≡ min (sum (map weighs rows.now)) (2 ^ 64 - 1) }
+    ensures { result ≡ min (sum (map R.weighs rows.now)) (2 ^ 64 - 1) }
 {
     let mut total = 0u64;
     for row in rows {

@@ -1,5 +1,6 @@
 // An amount of energy shared over a row of weights.
 #![tactic(auto)]
+
 mod by_weight;
 mod estimated_point;
 mod kinds;

@@ -1,5 +1,6 @@
 // The weather of a day, as the stations tell it, and what to say of it.
 #![tactic(auto)]
+
 mod answer;
 mod limited;
 mod reckoning;
