@@ -1,5 +1,6 @@
 // The records that reach the engine, and the one line in which each is written.
 #![tactic(auto)]
+
 mod layout;
 mod record;
 mod tag;
