@@ -1,5 +1,6 @@
 // Lines of 45 bytes and a line feed, read as the records that they are the writing of.
 #![tactic(auto)]
+
 mod fault;
 mod field;
 mod parts;

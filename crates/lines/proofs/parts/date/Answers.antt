@@ -5,4 +5,4 @@ use Rattle.lines.proofs.parts.date.Goals as goal
 
 pub returns : goal.returns
 returns c =
-    part_read (part date (start c.args.field) c.args.line.now) _ _ _ _ c.columns.ensures c.column.ensures c.read-date.ensures c.placed.ensures
+    part_read (part date (start c.args.field) c.args.line.now) _ _ _ _ c.columns.ensures c.column.ensures c.read_date.ensures c.placed.ensures

@@ -6,4 +6,4 @@ use Rattle.lines.proofs.parts.no_letter.Goals as goal
 
 pub returns : goal.returns
 returns c =
-    part_read (part no_letter 44 c.args.line.now) _ _ _ _ (letter_piece c.args.line.now (search rules)) refl c.read-no-letter.ensures c.placed.ensures
+    part_read (part no_letter 44 c.args.line.now) _ _ _ _ (letter_piece c.args.line.now (search rules)) refl c.read_no_letter.ensures c.placed.ensures

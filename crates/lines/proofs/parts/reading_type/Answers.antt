@@ -6,4 +6,4 @@ use Rattle.lines.proofs.parts.reading_type.Goals as goal
 
 pub returns : goal.returns
 returns c =
-    part_read (part reading_type 44 c.args.line.now) _ _ _ _ (letter_piece c.args.line.now (search rules)) refl c.type-of-letter.ensures c.placed.ensures
+    part_read (part reading_type 44 c.args.line.now) _ _ _ _ (letter_piece c.args.line.now (search rules)) refl c.type_of_letter.ensures c.placed.ensures

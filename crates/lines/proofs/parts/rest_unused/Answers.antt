@@ -1,8 +1,8 @@
 use Rattle.lines.proofs.Pieces.{at, rest_refused, rest_read}
 use Rattle.lines.proofs.parts.rest_unused.Goals as goal
 
-pub returns-in-err-blank : goal.returns-in-err-blank
-returns-in-err-blank c = rest_refused c.args.line.now _ _ c.from-residual.ensures (at c.in-err-blank.ensures)
+pub returns-in_err-blank : goal.returns-in_err-blank
+returns-in_err-blank c = rest_refused c.args.line.now _ _ c.from_residual.ensures (at c.in_err-blank.ensures)
 
 pub returns : goal.returns
-returns c = rest_read c.args.line.now _ c.in-ok-blank.ensures c.no_letter.ensures
+returns c = rest_read c.args.line.now _ c.in_ok-blank.ensures c.no_letter.ensures

@@ -5,4 +5,4 @@ use Rattle.lines.proofs.parts.signed.Goals as goal
 
 pub returns : goal.returns
 returns c =
-    part_read (part signed (start c.args.field) c.args.line.now) _ _ _ _ c.columns.ensures c.column.ensures c.read-signed.ensures c.placed.ensures
+    part_read (part signed (start c.args.field) c.args.line.now) _ _ _ _ c.columns.ensures c.column.ensures c.read_signed.ensures c.placed.ensures

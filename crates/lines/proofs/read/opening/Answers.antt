@@ -3,23 +3,23 @@ use Rattle.records.specs.declared.tag.Tag.TheVariants.{Open}
 use Rattle.lines.proofs.Pieces.{at, past, refused, none, next, assembled}
 use Rattle.lines.proofs.read.opening.Goals as goal
 
-pub returns-in-err-first-date : goal.returns-in-err-first-date
-returns-in-err-first-date c =
-    refused Open c.args.line.now _ _ c.from-residual.ensures (at c.in-err-first-date.ensures)
+pub returns-in_err-first_date : goal.returns-in_err-first_date
+returns-in_err-first_date c =
+    refused Open c.args.line.now _ _ c.from_residual.ensures (at c.in_err-first_date.ensures)
 
-pub returns-in-err-days : goal.returns-in-err-days
-returns-in-err-days c =
-    refused Open c.args.line.now _ _ c.from-residual-in-err-days.ensures (past c.in-ok-first-date.ensures (at c.in-err-days.ensures))
+pub returns-in_err-days : goal.returns-in_err-days
+returns-in_err-days c =
+    refused Open c.args.line.now _ _ c.from_residual-in_err-days.ensures (past c.in_ok-first_date.ensures (at c.in_err-days.ensures))
 
-pub returns-in-err-unaccounted : goal.returns-in-err-unaccounted
-returns-in-err-unaccounted c =
-    refused Open c.args.line.now _ _ c.from-residual-in-err-unaccounted.ensures (past c.in-ok-first-date.ensures (past c.in-ok-days.ensures (at c.in-err-unaccounted.ensures)))
+pub returns-in_err-unaccounted : goal.returns-in_err-unaccounted
+returns-in_err-unaccounted c =
+    refused Open c.args.line.now _ _ c.from_residual-in_err-unaccounted.ensures (past c.in_ok-first_date.ensures (past c.in_ok-days.ensures (at c.in_err-unaccounted.ensures)))
 
-pub returns-in-err-rest-unused : goal.returns-in-err-rest-unused
-returns-in-err-rest-unused c =
-    refused Open c.args.line.now _ _ c.from-residual-in-err-rest-unused.ensures (past c.in-ok-first-date.ensures (past c.in-ok-days.ensures (past c.in-ok-unaccounted.ensures c.in-err-rest-unused.ensures)))
+pub returns-in_err-rest_unused : goal.returns-in_err-rest_unused
+returns-in_err-rest_unused c =
+    refused Open c.args.line.now _ _ c.from_residual-in_err-rest_unused.ensures (past c.in_ok-first_date.ensures (past c.in_ok-days.ensures (past c.in_ok-unaccounted.ensures c.in_err-rest_unused.ensures)))
 
 pub returns : goal.returns
 returns c =
-    let rest = c.in-ok-rest-unused.ensures in
-    assembled Open c.args.line.now c.requires.0 c.requires.1 (next c.in-ok-first-date.ensures (next c.in-ok-days.ensures (next c.in-ok-unaccounted.ensures (next rest.0 (next rest.1 none))))) refl
+    let rest = c.in_ok-rest_unused.ensures in
+    assembled Open c.args.line.now c.requires.0 c.requires.1 (next c.in_ok-first_date.ensures (next c.in_ok-days.ensures (next c.in_ok-unaccounted.ensures (next rest.0 (next rest.1 none))))) refl

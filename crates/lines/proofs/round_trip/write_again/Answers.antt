@@ -1,6 +1,6 @@
 use Rattle.lines.proofs.OneWriting.{again_refused}
 use Rattle.lines.proofs.round_trip.write_again.Goals as goal
 
-pub returns-in-err-record : goal.returns-in-err-record
-returns-in-err-record c =
-    again_refused c.args.bytes.now _ _ c.from-residual.ensures c.in-err-record.ensures.read
+pub returns-in_err-record : goal.returns-in_err-record
+returns-in_err-record c =
+    again_refused c.args.bytes.now _ _ c.from_residual.ensures c.in_err-record.ensures.read
