@@ -1,5 +1,6 @@
 // Whether the numbers of a record are within their limits, and its dates exist.
 #![tactic(auto)]
+
 mod check;
 mod dates;
 mod limits;

@@ -1,10 +1,10 @@
 use Rattle.limits.proofs.Numbered.{malformed, beyond}
 use Rattle.limits.proofs.line.checked.Goals as goal
 
-pub returns-in-err-record : goal.returns-in-err-record
-returns-in-err-record c =
-    malformed c.args.bytes.now c.args.limits _ _ c.from-residual.ensures c.in-err-record.ensures.read
+pub returns-in_err-record : goal.returns-in_err-record
+returns-in_err-record c =
+    malformed c.args.bytes.now c.args.limits _ _ c.from_residual.ensures c.in_err-record.ensures.read
 
-pub returns-in-err-check-limits : goal.returns-in-err-check-limits
-returns-in-err-check-limits c =
-    beyond c.args.bytes.now c.args.limits _ _ c.in-ok-record.record c.from-residual-in-err-check-limits.ensures c.in-ok-record.ensures.read c.in-err-check-limits.ensures
+pub returns-in_err-check_limits : goal.returns-in_err-check_limits
+returns-in_err-check_limits c =
+    beyond c.args.bytes.now c.args.limits _ _ c.in_ok-record.record c.from_residual-in_err-check_limits.ensures c.in_ok-record.ensures.read c.in_err-check_limits.ensures
