@@ -1,5 +1,6 @@
 // Reads lines on standard input and prints what each says, or its number, layer, refusal and column.
 #![tactic(auto)]
+
 mod words;
 
 use limits::{Limits, check_line};
