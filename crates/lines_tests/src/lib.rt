@@ -1,5 +1,6 @@
 // Lines good and damaged in every part of every tag, and what each is answered.
 #![tactic(auto)]
+
 #[cfg(test)]
 mod rows;
 #[cfg(test)]

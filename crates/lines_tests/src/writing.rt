@@ -17,7 +17,7 @@ fn bytes_beyond_the_line_stay(rt: HostRuntime) {
     assert!(rt; write_record(&DEGREES, &mut buffer).is_ok());
     assert_eq!(rt;
         &buffer[..],
-        b"DEGD  20240701       500                     \nxx"
+        b"DEGD  20240701       500                     \nxx".as_slice()
     );
 }
 
