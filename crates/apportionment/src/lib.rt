@@ -1,5 +1,6 @@
 // One metered energy spread over the loads of consecutive days: from the words of a command line to a table.
 #![tactic(auto)]
+
 mod asked;
 mod by_load;
 mod fault;

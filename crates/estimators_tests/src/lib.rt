@@ -1,5 +1,6 @@
 // The estimators at the edges of their limits, alone and in layers.
 #![tactic(auto)]
+
 #[cfg(test)]
 mod asked;
 #[cfg(test)]

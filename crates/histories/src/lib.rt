@@ -1,5 +1,6 @@
 // What a book has been told, and what the rules make of it.
 #![tactic(auto)]
+
 mod call;
 mod entry;
 

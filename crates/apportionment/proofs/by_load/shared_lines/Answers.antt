@@ -5,14 +5,14 @@ use Rattle.apportionment.specs.Days.{lines_of}
 use Rattle.apportionment.proofs.Days.{always_shared, few_days, lines_of_shared, same_length}
 use Rattle.apportionment.proofs.by_load.shared_lines.Goals as goal
 
-pub returns-in-err-share : goal.returns-in-err-share
-returns-in-err-share c =
+pub returns-in_err-share : goal.returns-in_err-share
+returns-in_err-share c =
     let can = always_shared c.args.energy c.args.loads.now c.args.days.now c.requires.sized c.requires.weighed in
-    let refused = refused_since _ _ _ _ c.in-err-share.ensures.answer in
+    let refused = refused_since _ _ _ _ c.in_err-share.ensures.answer in
     absurd (both_ways _ refused.0 can)
 
-pub day-lines-requires : goal.day-lines-requires
-day-lines-requires c =
+pub day_lines-requires : goal.day_lines-requires
+day_lines-requires c =
     let same = same_length c.args.loads.now c.args.days.now c.requires.weighed in
     let few = few_days c.args.energy c.args.loads.now c.requires.sized in
     (omega (arith, same, c.share.auto.rows), omega (arith, same, few, c.share.auto.rows))
@@ -21,6 +21,6 @@ pub returns : goal.returns
 returns c =
     let can = always_shared c.args.energy c.args.loads.now c.args.days.now c.requires.sized c.requires.weighed in (
       refl,
-      c.in-ok-day-lines.ensures ∙ ap (lines_of c.args.loads.now) (rw can at c.share.ensures.rows)
+      c.in_ok-day_lines.ensures ∙ ap (lines_of c.args.loads.now) (rw can at c.share.ensures.rows)
           ∙ lines_of_shared _ _ _ c.requires.weighed,
     )

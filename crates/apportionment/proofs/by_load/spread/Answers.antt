@@ -5,4 +5,4 @@ use Rattle.apportionment.proofs.by_load.spread.Goals as goal
 pub returns : goal.returns
 returns c =
     let fits : spreadable c.args.energy c.args.loads.now ≡ true = search rules in
-    rw fits c.shared-lines.ensures
+    rw fits c.shared_lines.ensures
