@@ -1,5 +1,6 @@
 // What holds of the readings of every history that a book can have: there is nothing to compute.
 #![tactic(auto)]
+
 ghost use Rattle.reading_laws.specs.Worked.{WorkedReadings};
 ghost use Rattle.reading_laws.specs.Laws.{LastCoveringIsHeld, HeldLieEndToEnd, ReadingsReplaceWholes, HeldWithinPlaces, OtherEntriesLeaveReadings, HeldLieInBook};
 

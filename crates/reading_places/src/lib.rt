@@ -1,5 +1,6 @@
 // The places of held readings: counting, freeing and taking them.
 #![tactic(auto)]
+
 mod counting;
 mod replacing;
 

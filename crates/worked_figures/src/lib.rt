@@ -1,5 +1,6 @@
 // The figures worked by hand, proved of the definitions that every promise cites.
 #![tactic(auto)]
+
 ghost use Rattle.worked_figures.specs.Figures.{WorkedFigures};
 
 // The figures hold; there is nothing to compute.

@@ -7,10 +7,10 @@ use Rattle.reading_places.proofs.replacing.free_replaced.Goals as goal
 
 pub loop-i-preserved : goal.loop-i-preserved
 loop-i-preserved c = (
-  c.free-if-replaced.ensures.items
+  c.free_if_replaced.ensures.items
       ∙ map_over_more (left_by c.args.new.now) (vec_items c.args.places.now) (vec_items c.loop-i.places) c.loop-i.i (get_or (vec_items c.loop-i.places) c.loop-i.i None)
       (omega (arith, c.args.places.now.ok.0)) c.loop-i.invariant.0 (get_or_default (vec_items c.loop-i.places) c.loop-i.i None _ (omega (arith, c.loop-i.places.ok.0, c.loop-i.invariant.1))),
-  c.free-if-replaced.ensures.len ∙ c.loop-i.invariant.1,
+  c.free_if_replaced.ensures.len ∙ c.loop-i.invariant.1,
 )
 
 pub returns : goal.returns
