@@ -1,5 +1,6 @@
 // Energies spread over loads, held to shares worked out by hand.
 #![tactic(auto)]
+
 #[cfg(test)]
 mod tests {
     use apportionment::{DayLine, Fault, read_request, spread};

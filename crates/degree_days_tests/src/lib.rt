@@ -1,5 +1,6 @@
 // Degree days at the edges of their limits, and at figures reckoned by hand.
 #![tactic(auto)]
+
 #[cfg(test)]
 mod tests {
     use degree_days::Observations;

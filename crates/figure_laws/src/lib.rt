@@ -1,5 +1,6 @@
 // The laws of the daily figures, proved of the definitions that a book's promises cite.
 #![tactic(auto)]
+
 ghost use Rattle.figure_laws.specs.Balance.{EachDayBalances, RetailersBalance, ScalingOnlyLowers, SuppliedStands};
 ghost use Rattle.figure_laws.specs.Locality.{CountsMoveEstimates, EnrolmentsMoveLaterDays, LoadsLeaveApartDays, LoadsMoveJoinedDays, ReadingsMoveCoveredDays};
 ghost use Rattle.figure_laws.specs.Orders.{LatestEntriesDecide};

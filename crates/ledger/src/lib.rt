@@ -1,5 +1,6 @@
 // What a book has been told: gates, interval energies, enrolments and held readings.
 #![tactic(auto)]
+
 mod access;
 mod asks;
 mod covered;

@@ -5,8 +5,8 @@ use Rattle.ledger.proofs.open.clear_front.Goals as goal
 
 pub loop-i-preserved : goal.loop-i-preserved
 loop-i-preserved c = (
-  map_over_more (λ x. 0) (vec_items c.args.list.now) (vec_items c.loop-i.list) c.loop-i.i c.index-mut.result.now (omega (arith, c.args.list.now.ok.0, c.loop-i-test.true, c.len.ensures, c.min-i-end.ensures))
-      c.loop-i.invariant.0 c.index-mut.ensures.value,
+  map_over_more (λ x. 0) (vec_items c.args.list.now) (vec_items c.loop-i.list) c.loop-i.i c.index_mut.result.now (omega (arith, c.args.list.now.ok.0, c.loop-i-test.true, c.len.ensures, c.min-i-end.ensures))
+      c.loop-i.invariant.0 c.index_mut.ensures.value,
   c.loop-i.invariant.1,
 )
 

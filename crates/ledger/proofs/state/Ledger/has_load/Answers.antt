@@ -2,4 +2,4 @@ use Rattle.std.proofs.Common.{is_some, ap, ◌∙◌}
 use Rattle.ledger.proofs.state.Ledger.has_load.Goals as goal
 
 pub returns : goal.returns
-returns c = λ s h f. c.is-some.ensures ∙ ap is_some (c.load.ensures.law s h f)
+returns c = λ s h f. c.is_some.ensures ∙ ap is_some (c.load.ensures.law s h f)

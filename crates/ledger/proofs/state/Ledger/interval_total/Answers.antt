@@ -1,15 +1,15 @@
 use Rattle.std.proofs.Common.{◌≡◌, ◌≤◌, arith}
-use mir.Facts.{Fits_below}
+use mir.Facts.{Fits-below}
 use Rattle.ledger.proofs.Loads.{interval_here, meters_more, meters_none}
 use Rattle.ledger.proofs.state.Ledger.interval_total.Goals as goal
 
 pub loop-meter-init : goal.loop-meter-init
 loop-meter-init c = (meters_none c.args.self.now c.args.day, omega arith)
 
-pub overflow-add-total : goal.overflow-add-total
-overflow-add-total c =
+pub overflow_add-total : goal.overflow_add-total
+overflow_add-total c =
     let here = interval_here c.args.self.now c.args.day c.loop-meter.meter c.index.result.now c.requires c.loop-meter-test.true c.index.ensures in
-    Fits_below {n = 4000000000} tt (omega (arith, here.1, c.loop-meter.invariant.1))
+    Fits-below {n = 4000000000} tt (omega (arith, here.1, c.loop-meter.invariant.1))
 
 pub loop-meter-preserved : goal.loop-meter-preserved
 loop-meter-preserved c =

@@ -6,32 +6,32 @@ use Rattle.refusals.specs.Answers.{accepted_since, refused_since}
 use Rattle.ledger.proofs.Judged.{in_book_of, outside_refused}
 use Rattle.ledger.proofs.state.Ledger.judge_numbers.Goals as goal
 
-pub returns-in-err-start : goal.returns-in-err-start
-returns-in-err-start c =
-    let p = err_from_is_err_and c.from-residual-in-err-start.result c.from-residual-in-err-start.ensures.1 in
-    let start_real = accepted_since _ _ _ _ c.in-ok-start-number.ensures in
-    let end_real = accepted_since _ _ _ _ c.in-ok-end-number.ensures in
-    let late = refused_since _ _ _ _ c.in-err-start.ensures in
+pub returns-in_err-start : goal.returns-in_err-start
+returns-in_err-start c =
+    let p = err_from_is_err_and c.from_residual-in_err-start.result c.from_residual-in_err-start.ensures.1 in
+    let start_real = accepted_since _ _ _ _ c.in_ok-start_number.ensures in
+    let end_real = accepted_since _ _ _ _ c.in_ok-end_number.ensures in
+    let late = refused_since _ _ _ _ c.in_err-start.ensures in
     let limited : energy_within c.args.energy ≡ true = search rules in
     rw (p.1, p.2) record {
       fits = tt;
       law = λ s h f.
           outside_refused s h c.args.point c.args.start c.args.end c.args.energy c.args.reading_type _
-          (ap (λ n. between 1 n c.args.point) (sym f.points) ∙ sym c.has-point.ensures ∙ c.if-not-has-point.false) limited start_real.0 end_real.0
+          (ap (λ n. between 1 n c.args.point) (sym f.points) ∙ sym c.has_point.ensures ∙ c.if-not-has_point.false) limited start_real.0 end_real.0
           (and_left _ _ (in_book_of 0 c.args.start _ _ f start_real.1 late.0)) late.1;
     }
 
-pub returns-in-err-end : goal.returns-in-err-end
-returns-in-err-end c =
-    let p = err_from_is_err_and c.from-residual-in-err-end.result c.from-residual-in-err-end.ensures.1 in
-    let start_real = accepted_since _ _ _ _ c.in-ok-start-number.ensures in
-    let end_real = accepted_since _ _ _ _ c.in-ok-end-number.ensures in
-    let late = refused_since _ _ _ _ c.in-err-end.ensures in
+pub returns-in_err-end : goal.returns-in_err-end
+returns-in_err-end c =
+    let p = err_from_is_err_and c.from_residual-in_err-end.result c.from_residual-in_err-end.ensures.1 in
+    let start_real = accepted_since _ _ _ _ c.in_ok-start_number.ensures in
+    let end_real = accepted_since _ _ _ _ c.in_ok-end_number.ensures in
+    let late = refused_since _ _ _ _ c.in_err-end.ensures in
     let limited : energy_within c.args.energy ≡ true = search rules in
     rw (p.1, p.2) record {
       fits = tt;
       law = λ s h f.
           outside_refused s h c.args.point c.args.start c.args.end c.args.energy c.args.reading_type _
-          (ap (λ n. between 1 n c.args.point) (sym f.points) ∙ sym c.has-point.ensures ∙ c.if-not-has-point.false) limited start_real.0 end_real.0
+          (ap (λ n. between 1 n c.args.point) (sym f.points) ∙ sym c.has_point.ensures ∙ c.if-not-has_point.false) limited start_real.0 end_real.0
           (and_right _ _ (in_book_of 1 c.args.end _ _ f end_real.1 late.0)) late.1;
     }

@@ -3,19 +3,12 @@ use Rattle.ledger.specs.Limits.{interval_within}
 use Rattle.ledger.proofs.Tables.{front_passes}
 use Rattle.ledger.proofs.state.Ledger.put_interval.Goals as goal
 
-pub invariant-of-self : goal.invariant-of-self
-invariant-of-self c =
-    let l = c.args.self.now in (
-      l.opened,
-      (
-        l.gates_within,
-        (
-          omega (arith, c.write-energy.ensures.len, l.intervals_long),
-          (
-            rw c.write-energy.ensures.items (front_passes interval_within (l.opening.days * 32) (vec_items l.intervals) (c.args.day * 32 + (c.args.meter - 1)) c.args.energy (omega arith) c.requires.1.1.1
-                l.intervals_within),
-            tt,
-          ),
-        ),
-      ),
-    )
+pub invariant_of-self : goal.invariant_of-self
+invariant_of-self c =
+    let l = c.args.self.now in record {
+      opened = l.opened;
+      gates_within = l.gates_within;
+      intervals_long = omega (arith, c.write_energy.ensures.len, l.intervals_long);
+      intervals_within = rw c.write_energy.ensures.items (front_passes interval_within (l.opening.days * 32) (vec_items l.intervals) (c.args.day * 32 + (c.args.meter - 1)) c.args.energy (omega arith) c.requires.1.1.1
+          l.intervals_within);
+    }
