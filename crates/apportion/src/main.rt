@@ -1,5 +1,6 @@
 // apportion ENERGY LOAD LOAD ..: one metered energy spread over the loads of consecutive days, as a table.
 #![tactic(auto)]
+
 use anyhow::anyhow;
 use apportionment::{
     DayLine, Fault, LARGEST_ENERGY, LARGEST_LOAD, MOST_DAYS, read_request, spread,

@@ -1,5 +1,6 @@
 // The degree days of a day from the stations' observations, and what they make of three sample points.
 #![tactic(auto)]
+
 mod shown;
 
 use anyhow::anyhow;

@@ -1,5 +1,6 @@
 // The word that is named where a day's weather is beyond its limits.
 #![tactic(auto)]
+
 #[cfg(test)]
 mod tests {
     use degree_days::Observations;
