@@ -2,7 +2,6 @@ ghost use Rattle.std.specs.Prelude.{◌≡◌, nat_le};
 ghost use Rattle.refusals.specs.Answers.{AnswersBy};
 ghost use Rattle.sharing.specs.Kinds.{with_share, with_figure};
 ghost use Rattle.sharing.specs.Limits.{largest_day_weight, largest_estimate};
-ghost use Rattle.std.proofs.Common.{rules, arith};
 
 use super::estimated_point::EstimatedPoint;
 use super::reading_day::ReadingDay;
@@ -30,7 +29,7 @@ impl Row for ReadingDay {
 
     ghost taking = { with_share };
 
-    ghost light = { first_of (Prim.search rules, Prim.grind (arith, Self.row.coded.inj)) };
+    ghost light = { λ day. day.light };
 
     fn limit() -> u64 {
         Self::LARGEST
@@ -69,7 +68,7 @@ impl Row for EstimatedPoint {
 
     ghost taking = { with_figure };
 
-    ghost light = { first_of (Prim.search rules, Prim.grind (arith, Self.row.coded.inj)) };
+    ghost light = { λ point. point.light };
 
     fn limit() -> u64 {
         Self::LARGEST

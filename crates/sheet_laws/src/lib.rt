@@ -1,5 +1,6 @@
 // Laws that a sheet of daily figures rests on, proved of the definitions that a book's promises cite.
 #![tactic(auto)]
+
 ghost use Rattle.sheet_laws.specs.Bounds.{FiguresKeepLimits};
 ghost use Rattle.sheet_laws.specs.CoveredTo.{CoverageReaches};
 ghost use Rattle.sheet_laws.specs.Entered.{EntriesLieInTheBook};
