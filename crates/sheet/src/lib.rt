@@ -1,5 +1,6 @@
 // The daily figures of every point, kept as a book is told things.
 #![tactic(auto)]
+
 mod asking;
 mod cells;
 mod day_figures;

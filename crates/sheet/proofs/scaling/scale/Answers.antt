@@ -9,14 +9,14 @@ pub returns-then-estimated-gt0 : goal.returns-then-estimated-gt0
 returns-then-estimated-gt0 c =
     let n = c.in-Some.load in
     let rows = c.args.rows.now in
-    let left : ℕ = c.left-beside.result in
+    let left : ℕ = c.left_beside.result in
     let small : c.in-Some.load ≤ 1000000000 = subst (λ (o : Option ℕ). IfSome o (λ x. x ≤ 1000000000)) c.in-Some.is c.requires.0 in
-    let least : c.left-beside.result ≤ 1000000000 = omega (arith, small, c.left-beside.ensures) in
-    let total : sum (estimates_of c.args.rows.now) ≡ c.total-of-estimated.result = sym c.total-of-estimated.ensures in
+    let least : c.left_beside.result ≤ 1000000000 = omega (arith, small, c.left_beside.ensures) in
+    let total : sum (estimates_of c.args.rows.now) ≡ c.total_of-estimated.result = sym c.total_of-estimated.ensures in
     let some : 0 < sum (estimates_of c.args.rows.now) = omega (arith, total, c.if-estimated-gt0.true) in
-    let above : c.in-Some.load < c.args.supplied + sum (estimates_of c.args.rows.now) = omega (arith, total, small, c.saturating-add.ensures, c.if-saturating-add-load.true) in
+    let above : c.in-Some.load < c.args.supplied + sum (estimates_of c.args.rows.now) = omega (arith, total, small, c.saturating_add.ensures, c.if-saturating_add-load.true) in
     let can = shareable left rows least c.requires.1.0 some in
     scaled_by c.args.load c.args.supplied (estimates_of rows) _
     (ap (λ o. exceeded c.args.supplied (sum (estimates_of rows)) o) c.in-Some.is ∙ exceeds c.args.supplied (sum (estimates_of rows)) n above some)
     (shared_figures left rows c.share.new.rows can c.share.ensures.rows
-    ∙ ap (λ x. shares x (estimates_of rows)) (c.left-beside.ensures ∙ ap (λ o. unwrap_or o 0 - c.args.supplied) (sym c.in-Some.is)))
+    ∙ ap (λ x. shares x (estimates_of rows)) (c.left_beside.ensures ∙ ap (λ o. unwrap_or o 0 - c.args.supplied) (sym c.in-Some.is)))

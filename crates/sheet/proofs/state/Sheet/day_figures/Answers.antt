@@ -7,5 +7,5 @@ pub returns : goal.returns
 returns g c = λ s h told stands limited on within.
     let few : s.points ≤ 256 = omega (arith, told.points, c.args.self.now.few_points) in
     account_told s h told.lawful limited few c.args.day c.args.self.now (stands.shown c.args.day within) (supplied_shown_before s h c.args.self.now stands c.args.day within)
-    c.in-ok-load.load c.sum-of-supplied.result c.sum-of-generated.result c.missing-missing.result
-    (sym (told.loads c.args.day within) ∙ c.in-ok-load.was) (c.sum-of-supplied.ensures s h told) (c.sum-of-generated.ensures s h told) (c.missing-missing.ensures s h told on) c.of.result c.of.ensures
+    c.in_ok-load.load c.sum_of-supplied.result c.sum_of-generated.result c.missing-missing.result
+    (sym (told.loads c.args.day within) ∙ c.in_ok-load.was) (c.sum_of-supplied.ensures s h told) (c.sum_of-generated.ensures s h told) (c.missing-missing.ensures s h told on) c.of.result c.of.ensures

@@ -4,10 +4,10 @@ use Rattle.sheet.specs.Limits.{load_within}
 use Rattle.sheet.proofs.Scaled.{load_passes}
 use Rattle.sheet.proofs.state.Sheet.learn_load.Goals as goal
 
-pub invariant-of-self : goal.invariant-of-self
-invariant-of-self c =
+pub invariant_of-self : goal.invariant_of-self
+invariant_of-self c =
     let b = c.args.self.now in
-    (b.few_days, (b.few_points, (b.long, (written_passes load_within b.loads c.args.day c.load.result (load_passes c.load.result c.load.ensures.bound) b.loads_within, tt))))
+    record { few_days = b.few_days; few_points = b.few_points; long = b.long; loads_within = written_passes load_within b.loads c.args.day c.load.result (load_passes c.load.result c.load.ensures.bound) b.loads_within }
 
 pub returns : goal.returns
 returns c = record {

@@ -1,25 +1,25 @@
 use Rattle.std.proofs.Common.{◌≡◌, sym, ap, ◌∙◌, arith}
 use Rattle.sheet.proofs.Asked.{missing_all, missing_first, missing_none, missing_skip, missing_step}
 use Rattle.sheet.proofs.state.Sheet.missing.Goals as goal
-use Rattle.sheet.proofs.state.Sheet.missing.Goals.{then_is_missing, else_is_missing}
+use Rattle.sheet.proofs.state.Sheet.missing.Goals.{then-is_missing, else-is_missing}
 
 pub loop-i-init : goal.loop-i-init
 loop-i-init g c = (omega arith, λ s h told on. sym (missing_none s h c.args.day))
 
 pub loop-i-preserved : goal.loop-i-preserved
 loop-i-preserved g c =
-    elim c.if-is-missing.branch [
-      | then_is_missing w ↦ (
+    elim c.if-is_missing.branch [
+      | then-is_missing w ↦ (
         omega (arith, w.missing-is, c.loop-i.invariant.0),
         λ s h told on.
             w.missing-is
-            ∙ missing_step s h c.args.day c.loop-i.i c.loop-i.missing (sym (c.is-missing.ensures s h told on) ∙ w.if-is-missing.true) (c.loop-i.invariant.1 s h told on),
+            ∙ missing_step s h c.args.day c.loop-i.i c.loop-i.missing (sym (c.is_missing.ensures s h told on) ∙ w.if-is_missing.true) (c.loop-i.invariant.1 s h told on),
       )
-      | else_is_missing w ↦ (
+      | else-is_missing w ↦ (
         omega (arith, w.missing-is, c.loop-i.invariant.0),
         λ s h told on.
             w.missing-is
-            ∙ missing_skip s h c.args.day c.loop-i.i c.loop-i.missing (sym (c.is-missing.ensures s h told on) ∙ w.if-is-missing.false) (c.loop-i.invariant.1 s h told on),
+            ∙ missing_skip s h c.args.day c.loop-i.i c.loop-i.missing (sym (c.is_missing.ensures s h told on) ∙ w.if-is_missing.false) (c.loop-i.invariant.1 s h told on),
       )
     ]
 

@@ -4,8 +4,8 @@ use Rattle.sheet.proofs.state.Sheet.settle_day.Goals as goal
 
 pub returns : goal.returns
 returns g c = record {
-  stands = c.show-generated.ensures.stands;
+  stands = c.show_generated.ensures.stands;
   law = λ s h told on within shows.
-      day_shown s h c.args.day (figures_of c.generate.new.rows) c.args.self.now c.show-generated.new.self shows (c.generate.ensures s h told on shows)
-      (c.show-generated.ensures.law s h told);
+      day_shown s h c.args.day (figures_of c.generate.new.rows) c.args.self.now c.show_generated.new.self shows (c.generate.ensures s h told on shows)
+      (c.show_generated.ensures.law s h told);
 }

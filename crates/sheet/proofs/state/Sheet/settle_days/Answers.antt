@@ -13,14 +13,14 @@ loop-day-init g c = (only_none _ _ _, λ s h told on inside shows d low high. ab
 pub loop-day-preserved : goal.loop-day-preserved
 loop-day-preserved g c =
     let only = c.loop-day.invariant.0 in
-    let here = c.settle-day.ensures.stands in (
+    let here = c.settle_day.ensures.stands in (
       only_join c.loop-day.auto.day (omega arith) only here,
       λ s h told on inside shows d low high.
           let many = only.points ∙ told.points in
           ⊎_elim
           (λ (now_settled : d ≡ c.loop-day.day).
-          subst (λ e. ShowsDay s h c.settle-day.new.self e) (sym now_settled)
-          (c.settle-day.ensures.law s h (told_only only told) (on c.loop-day.day) (omega (arith, c.loop-day-test.true, inside))
+          subst (λ e. ShowsDay s h c.settle_day.new.self e) (sym now_settled)
+          (c.settle_day.ensures.law s h (told_only only told) (on c.loop-day.day) (omega (arith, c.loop-day-test.true, inside))
           (supplied_stands only s h c.loop-day.day told.points (inr (omega arith)) (shows c.loop-day.day c.loop-day.auto.day c.loop-day-test.true))))
           (λ (before : d ≡ c.loop-day.day → ⊥).
           day_stands here s h d many (inl (omega arith)) (c.loop-day.invariant.1 s h told on inside shows d low (omega arith)))

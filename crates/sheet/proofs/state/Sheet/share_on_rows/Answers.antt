@@ -8,14 +8,14 @@ use Rattle.sheet.proofs.state.Sheet.share_on_rows.Goals as goal
 pub returns : goal.returns
 returns c =
     let r = c.args.reading.now in
-    let weighed = c.weigh-days.new.rows in
+    let weighed = c.weigh_days.new.rows in
     let shared = c.share.new.rows in
-    let long : length weighed ≡ r.end - r.start = c.weigh-days.auto.rows ∙ c.requires.each in
+    let long : length weighed ≡ r.end - r.start = c.weigh_days.auto.rows ∙ c.requires.each in
     let many : length shared ≡ r.end - r.start = c.share.auto.rows ∙ long in
     let end : r.start + length shared ≡ r.end = omega (arith, c.requires.lies.some) in
     record {
-      stands = subst (λ to. OnlyDays r.start to c.args.self.now c.show-shares.new.self) end c.show-shares.ensures.stands;
+      stands = subst (λ to. OnlyDays r.start to c.args.self.now c.show_shares.new.self) end c.show_shares.ensures.stands;
       law = λ s h l told can.
-          spread_shown s h r weighed shared long (c.weigh-days.ensures s h l told ∙ ap (λ n. map (weight s h) (range_with_len r.start n)) c.requires.each) can c.share.ensures.rows
-          c.args.self.now c.show-shares.new.self (length shared) (sym told.points) c.requires.lies.some many c.show-shares.ensures.cells;
+          spread_shown s h r weighed shared long (c.weigh_days.ensures s h l told ∙ ap (λ n. map (weight s h) (range_with_len r.start n)) c.requires.each) can c.share.ensures.rows
+          c.args.self.now c.show_shares.new.self (length shared) (sym told.points) c.requires.lies.some many c.show_shares.ensures.cells;
     }

@@ -8,7 +8,7 @@ use Rattle.sheet.specs.declared.state.Sheet.{Sheet}
 use Rattle.sheet.proofs.Joining.{SharedTo, Spanned, held_shareable, moved, placed_found, placed_lies, placed_not_found, shared_all, shared_more, shared_none, shared_skip, spanned_more, spanned_none}
 use Rattle.sheet.proofs.Keeping.{told_only}
 use Rattle.sheet.proofs.state.Sheet.share_over.Goals as goal
-use Rattle.sheet.proofs.state.Sheet.share_over.Goals.{in_Some, in_default}
+use Rattle.sheet.proofs.state.Sheet.share_over.Goals.{in-Some, in_default}
 
 pub loop-place-init : goal.loop-place-init
 loop-place-init c = (spanned_none c.args.day c.args.self.now c.requires, λ s h told. shared_none s h (vec_items c.args.ledger.now.places) c.args.day c.args.self.now)
@@ -27,30 +27,30 @@ loop-place-preserved c =
     let stands_at : place ≡ get_or (vec_items ledger.places) i None = ap (λ (ps : List (Option Reading)). get_or ps i None) c.places-place-items.ensures in
     let Kept : ℕ → ℕ → Sheet → Type 0 = λ f t x.
     Spanned day f t old x × ((s : Setting) (h : History) → Told s h ledger old → SharedTo s h (vec_items ledger.places) (i + 1) day f t old x) in
-    elim c.match-reading-over.branch [
-      | in_Some w ↦
+    elim c.match-reading_over.branch [
+      | in-Some w ↦
           let reading = w.in-Some.reading in
           let told_of = w.in-Some.ensures in
-          let new = w.share-reading.new.self in
-          moved Kept (min from reading.start) c.match-reading-over.span.from (max to reading.end) c.match-reading-over.span.to new c.match-reading-over.self
+          let new = w.share_reading.new.self in
+          moved Kept (min from reading.start) c.match-reading_over.span.from (max to reading.end) c.match-reading_over.span.to new c.match-reading_over.self
           (ap (λ (x : Span). x.from) w.span-is ∙ w.and-span.ensures.from) (ap (λ (x : Span). x.to) w.span-is ∙ w.and-span.ensures.to) w.self-is (
-            spanned_more day from to reading spanned told_of.lies w.share-reading.ensures.stands,
+            spanned_more day from to reading spanned told_of.lies w.share_reading.ensures.stands,
             λ s h told.
                 let so_far = c.loop-place.invariant.1 s h told in
                 let found = placed_found b day place reading told_of.free told_of.law (λ r is. placed_lies day i from to told spanned so_far i r (sym stands_at ∙ is)) in
                 let is = sym stands_at ∙ found.0 in
                 let told_now = told_only spanned.only told in
                 shared_more day i from to told spanned so_far new reading is found.1
-                (w.share-reading.ensures.law s h ledger told_now (held_shareable told_now reading (placed_is_held told.follows i reading is))),
+                (w.share_reading.ensures.law s h ledger told_now (held_shareable told_now reading (placed_is_held told.follows i reading is))),
           )
       | in_default w ↦
-          moved Kept from c.match-reading-over.span.from to c.match-reading-over.span.to b c.match-reading-over.self (ap (λ (x : Span). x.from) w.span-is)
+          moved Kept from c.match-reading_over.span.from to c.match-reading_over.span.to b c.match-reading_over.self (ap (λ (x : Span). x.from) w.span-is)
           (ap (λ (x : Span). x.to) w.span-is) w.self-is (
             spanned,
             λ s h told.
                 let so_far = c.loop-place.invariant.1 s h told in
                 shared_skip day i from to told spanned so_far
-                (λ r is. placed_not_found b day place w.in-default.ensures.law r (stands_at ∙ is) (placed_lies day i from to told spanned so_far i r is)),
+                (λ r is. placed_not_found b day place w.in_default.ensures.law r (stands_at ∙ is) (placed_lies day i from to told spanned so_far i r is)),
           )
     ]
 

@@ -4,16 +4,16 @@ use Rattle.sheet_laws.proofs.Entered.{entry_in}
 use Rattle.sheet.specs.Cells.{OnlyDays}
 use Rattle.sheet.proofs.Reworked.{enrolment_reworked, supplied_after_enrolment, told_enrolment}
 use Rattle.sheet.proofs.state.Sheet.start_point.Goals as goal
-use Rattle.sheet.proofs.state.Sheet.start_point.Goals.{then_point_lt1_via_then_point_lt1, then_point_lt1_via_else_point_lt1+then_point_self, then_point_lt1_via_else_point_lt1+else_point_self+then_enrolment_self}
+use Rattle.sheet.proofs.state.Sheet.start_point.Goals.{then-point-lt1-via-then-point-lt1, then-point-lt1-via-else-point-lt1+then-point-self, then-point-lt1-via-else-point-lt1+else-point-self+then-enrolment-self}
 
 pub returns-then-point-lt1 : goal.returns-then-point-lt1
 returns-then-point-lt1 g c = λ s h lawful follows on stood.
     let inside = entry_in s h (Enrolled c.args.point c.args.enrolment) lawful in
     absurd (
     elim c.then-point-lt1.branch [
-      | then_point_lt1_via_then_point_lt1 w ↦ omega (arith, inside.0, w.if-point-lt1.true)
-      | then_point_lt1_via_else_point_lt1+then_point_self w ↦ omega (arith, inside.1, stood.points, w.if-point-self.true)
-      | then_point_lt1_via_else_point_lt1+else_point_self+then_enrolment_self w ↦ omega (arith, inside.2, stood.days, w.if-enrolment-self.true)
+      | then-point-lt1-via-then-point-lt1 w ↦ omega (arith, inside.0, w.if-point-lt1.true)
+      | then-point-lt1-via-else-point-lt1+then-point-self w ↦ omega (arith, inside.1, stood.points, w.if-point-self.true)
+      | then-point-lt1-via-else-point-lt1+else-point-self+then-enrolment-self w ↦ omega (arith, inside.2, stood.days, w.if-enrolment-self.true)
     ]
     )
 
@@ -23,15 +23,15 @@ returns g c = λ s h lawful follows on stood.
     let enrolment = c.args.enrolment in
     let ledger = c.args.ledger.now in
     let old = c.args.self.now in
-    let knowing = c.cover-to.new.self in
-    let learned = c.cover-to.ensures.after in
-    let known = told_enrolment s h point enrolment ledger lawful follows old knowing stood learned c.cover-to.ensures.within in
-    let from = c.days-from-days.ensures.from in
-    let to = c.days-from-days.ensures.to in
-    enrolment_reworked s h point enrolment ledger lawful follows old knowing stood learned c.cover-to.ensures.within c.settle-span.new.self
-    (subst (λ (n : ℕ). OnlyDays n c.cover-to.new.self.days c.cover-to.new.self c.settle-span.new.self) from
-    (subst (λ (n : ℕ). OnlyDays c.days-from-days.result.from n c.cover-to.new.self c.settle-span.new.self) to c.settle-span.ensures.stands))
+    let knowing = c.cover_to.new.self in
+    let learned = c.cover_to.ensures.after in
+    let known = told_enrolment s h point enrolment ledger lawful follows old knowing stood learned c.cover_to.ensures.within in
+    let from = c.days_from-days.ensures.from in
+    let to = c.days_from-days.ensures.to in
+    enrolment_reworked s h point enrolment ledger lawful follows old knowing stood learned c.cover_to.ensures.within c.settle_span.new.self
+    (subst (λ (n : ℕ). OnlyDays n c.cover_to.new.self.days c.cover_to.new.self c.settle_span.new.self) from
+    (subst (λ (n : ℕ). OnlyDays c.days_from-days.result.from n c.cover_to.new.self c.settle_span.new.self) to c.settle_span.ensures.stands))
     (λ d low high.
-    c.settle-span.ensures.law s _ known on (omega (arith, known.days, to))
-    (λ e first last. supplied_after_enrolment s h point enrolment ledger lawful follows old knowing stood learned c.cover-to.ensures.within e (omega (arith, known.days, to, last)))
+    c.settle_span.ensures.law s _ known on (omega (arith, known.days, to))
+    (λ e first last. supplied_after_enrolment s h point enrolment ledger lawful follows old knowing stood learned c.cover_to.ensures.within e (omega (arith, known.days, to, last)))
     d (omega (arith, from, low)) (omega (arith, to, high)))

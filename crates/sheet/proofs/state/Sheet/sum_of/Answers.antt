@@ -2,7 +2,7 @@ use Rattle.std.proofs.Common.{◌≡◌, ◌+◌, ◌-◌, ◌^◌, min, sym, ap
 use Rattle.sheet.specs.Sums.{counted_sum}
 use Rattle.sheet.proofs.Counting.{counted_none, counted_skip, counted_step}
 use Rattle.sheet.proofs.state.Sheet.sum_of.Goals as goal
-use Rattle.sheet.proofs.state.Sheet.sum_of.Goals.{then_counts, else_counts}
+use Rattle.sheet.proofs.state.Sheet.sum_of.Goals.{then-counts, else-counts}
 
 pub loop-i-init : goal.loop-i-init
 loop-i-init c = λ s h told. omega (arith, counted_none h c.args.part c.args.self.now c.args.day)
@@ -12,10 +12,10 @@ loop-i-preserved c = λ s h told.
     let before = c.loop-i.invariant s h told in
     let law = c.counts.ensures s h told in
     elim c.if-counts.branch [
-      | then_counts w ↦
-          w.total-is ∙ w.saturating-add-total.ensures ∙ ap (λ x. min (c.loop-i.total + x) (2 ^ 64 - 1)) w.shown.ensures
+      | then-counts w ↦
+          w.total-is ∙ w.saturating_add-total.ensures ∙ ap (λ x. min (c.loop-i.total + x) (2 ^ 64 - 1)) w.shown.ensures
           ∙ counted_step h c.args.part c.args.self.now c.args.day c.loop-i.i c.loop-i.total (sym law ∙ w.if-counts.true) before
-      | else_counts w ↦
+      | else-counts w ↦
           w.total-is ∙ counted_skip h c.args.part c.args.self.now c.args.day c.loop-i.i c.loop-i.total (sym law ∙ w.if-counts.false) before
     ]
 

@@ -15,14 +15,14 @@ returns g c = λ s h lawful follows on stood.
     let r = c.args.reading.now in
     let ledger = c.args.ledger.now in
     let old = c.args.self.now in
-    let knowing = c.cover-at-least.new.self in
-    let sharing = c.share-reading.new.self in
-    let learned = c.cover-at-least.ensures.after in
-    let inside = c.cover-at-least.ensures.within in
+    let knowing = c.cover_at_least.new.self in
+    let sharing = c.share_reading.new.self in
+    let learned = c.cover_at_least.ensures.after in
+    let inside = c.cover_at_least.ensures.within in
     let told = told_reading s h r ledger lawful follows old knowing stood learned inside in
     let lies = held_lies told r (inl refl) in
-    let shared = c.share-reading.ensures.law s _ ledger told (held_shareable told r (inl refl)) in
-    let only = c.share-reading.ensures.stands in
-    reading_reworked s h r ledger lawful follows old knowing stood learned inside c.settle-days.new.self (only_again only c.settle-days.ensures.stands) lies.last
-    (c.settle-days.ensures.law s _ (told_only only told) on (omega (arith, told.days, lies.last))
+    let shared = c.share_reading.ensures.law s _ ledger told (held_shareable told r (inl refl)) in
+    let only = c.share_reading.ensures.stands in
+    reading_reworked s h r ledger lawful follows old knowing stood learned inside c.settle_days.new.self (only_again only c.settle_days.ensures.stands) lies.last
+    (c.settle_days.ensures.law s _ (told_only only told) on (omega (arith, told.days, lies.last))
     (λ d low high. supplied_after_reading s h r ledger lawful follows old knowing stood learned inside sharing shared d))
