@@ -1,5 +1,6 @@
 // The book of one distribution area: what it is told, what it is asked, and the law over every run of calls.
 #![tactic(auto)]
+
 mod access;
 mod answer;
 mod book;

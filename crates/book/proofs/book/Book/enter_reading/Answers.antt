@@ -5,12 +5,12 @@ use Rattle.book.proofs.book.Book.enter_reading.Goals as goal
 
 pub returns : goal.returns
 returns g c = record {
-  refused = c.take-in.ensures.refused c.args.self.now (record { sheet = refl; ledger = c.enter-reading-answer.ensures.refused });
-  law = c.take-in.ensures.law (EnterReading c.args.point c.args.start c.args.end c.args.energy c.args.reading_type) c.args.self.now (record {
+  refused = c.take_in.ensures.refused c.args.self.now (record { sheet = refl; ledger = c.enter_reading-answer.ensures.refused });
+  law = c.take_in.ensures.law (EnterReading c.args.point c.args.start c.args.end c.args.energy c.args.reading_type) c.args.self.now (record {
     sheet = refl;
     answered =
-        subst (λ (e : ℤ). Answered (EnterReading c.args.point c.args.start c.args.end e c.args.reading_type) c.args.self.now.ledger c.enter-reading-answer.result c.enter-reading-answer.new.self)
-        (to_z-of_z c.ranges.energy) c.enter-reading-answer.ensures.law;
+        subst (λ (e : ℤ). Answered (EnterReading c.args.point c.args.start c.args.end e c.args.reading_type) c.args.self.now.ledger c.enter_reading-answer.result c.enter_reading-answer.new.self)
+        (to_z-of_z c.ranges.energy) c.enter_reading-answer.ensures.law;
     no_count = refl;
   });
 }

@@ -10,19 +10,19 @@ use Rattle.book.proofs.Asked.{figure_shown}
 use Rattle.book.proofs.Steps.{granted_answers, refusal_answers}
 use Rattle.book.proofs.book.Book.figure_on.Goals as goal
 
-pub returns-in-err-day : goal.returns-in-err-day
-returns-in-err-day c =
-    let p = err_from_is_err_and c.from-residual.result c.from-residual.ensures.1 in
+pub returns-in_err-day : goal.returns-in_err-day
+returns-in_err-day c =
+    let p = err_from_is_err_and c.from_residual.result c.from_residual.ensures.1 in
     rw (p.1, p.2) (λ date m u question. record {
       law = λ s h f.
-          let judged = subst (λ (r : Result ℕ Refusal). Asked s h (AskFigure c.args.point date) date r) c.in-err-day.was (question.law s h f.entries) in
-          refusal_answers s h (AskFigure c.args.point date) c.in-err-day.field-0.0 judged.0 judged.1;
+          let judged = subst (λ (r : Result ℕ Refusal). Asked s h (AskFigure c.args.point date) date r) c.in_err-day.was (question.law s h f.entries) in
+          refusal_answers s h (AskFigure c.args.point date) c.in_err-day.field-0.0 judged.0 judged.1;
     })
 
 pub returns : goal.returns
 returns c = λ date m u question. record {
   law = λ s h f.
-      let judged = subst (λ (r : Result ℕ Refusal). Asked s h (AskFigure c.args.point date) date r) c.in-ok-day.was (question.law s h f.entries) in
+      let judged = subst (λ (r : Result ℕ Refusal). Asked s h (AskFigure c.args.point date) date r) c.in_ok-day.was (question.law s h f.entries) in
       let sheet = c.args.self.now.sheet in
       ap figure_is
       (c.figure.ensures ∙ ap (λ d. cond (in_sheet sheet c.args.point d) (cell sheet c.args.point d) 0) judged.1

@@ -42,7 +42,7 @@ returns-in-DegreeDaysEntered g c =
     record {
       ledger = refl;
       law = λ s h lawful follows on stood.
-          subst (λ (e : Entry). Stands s (e ∷ h) c.take-count.new.self) (sym is)
-          (c.take-count.ensures s h count (subst (λ (e : Entry). Lawful s (e ∷ h)) is lawful) (subst (λ (e : Entry). Follows s (e ∷ h) c.args.self.now.ledger) is follows)
+          subst (λ (e : Entry). Stands s (e ∷ h) c.take_count.new.self) (sym is)
+          (c.take_count.ensures s h count (subst (λ (e : Entry). Lawful s (e ∷ h)) is lawful) (subst (λ (e : Entry). Follows s (e ∷ h) c.args.self.now.ledger) is follows)
           (subst (λ (e : Entry). Estimates s (e ∷ h) (g.E.Estimator.meaning c.args.estimator.now)) is on) stood);
     }

@@ -4,7 +4,7 @@ use Rattle.book.proofs.book.Book.open_and_serve.Goals as goal
 
 pub returns : goal.returns
 returns g c =
-    let opened = c.in-ok-book.ensures.law in
+    let opened = c.in_ok-book.ensures.law in
     let served = c.serve-outcome.ensures in
     let m = g.E.Estimator.meaning c.args.estimator.now in
     let u = g.E.Weather.under c.args.estimator.now in

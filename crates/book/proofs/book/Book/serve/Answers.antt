@@ -11,13 +11,13 @@ loop-i-preserved g c =
     let inside : c.loop-i.i < length c.loop-i.answers = omega arith in (
       rw (drop-set-lt _ _ _ _ c.loop-i-test.true) c.loop-i.invariant.0,
       λ passes.
-          let left = leaves_more c.loop-i.answers c.loop-i.i c.serve-one.result inside passes in
-          let now_kept = c.serve-one.ensures.kept left.1 in
+          let left = leaves_more c.loop-i.answers c.loop-i.i c.serve_one.result inside passes in
+          let now_kept = c.serve_one.ensures.kept left.1 in
           let kept = c.loop-i.invariant.1 left.0 in
           (now_kept.0 ∙ kept.0, now_kept.1 ∙ kept.1),
       λ s h f.
           let ran = c.loop-i.invariant.2 s h f in
-          ran_more _ _ c.loop-i-test.true inside ran (c.serve-one.ensures.law s _ ran.follows),
+          ran_more _ _ c.loop-i-test.true inside ran (c.serve_one.ensures.law s _ ran.follows),
     )
 
 pub returns : goal.returns

@@ -13,7 +13,7 @@ returns-in-AskFigure g c = record {
   law = λ s h f.
       let call = AskFigure c.in-AskFigure.point c.in-AskFigure.date in
       rw c.in-AskFigure.is (
-        c.figure-answered.ensures ∙ (c.ask-figure.ensures (g.E.Estimator.meaning c.args.estimator.now) (g.E.Weather.under c.args.estimator.now)).law s h f,
+        c.figure_answered.ensures ∙ (c.ask_figure.ensures (g.E.Estimator.meaning c.args.estimator.now) (g.E.Weather.under c.args.estimator.now)).law s h f,
         subst (λ (x : History). Follows s x c.args.self.now (g.E.Estimator.meaning c.args.estimator.now) (g.E.Weather.under c.args.estimator.now)) (sym (asked_stays h (refusal s h call))) f,
       );
 }
@@ -24,7 +24,7 @@ returns-in-AskDay g c = record {
   law = λ s h f.
       let call = AskDay c.in-AskDay.date in
       rw c.in-AskDay.is (
-        c.day-answered.ensures ∙ c.ask-day.ensures.law s h f,
+        c.day_answered.ensures ∙ c.ask_day.ensures.law s h f,
         subst (λ (x : History). Follows s x c.args.self.now (g.E.Estimator.meaning c.args.estimator.now) (g.E.Weather.under c.args.estimator.now)) (sym (asked_stays h (refusal s h call))) f,
       );
 }
@@ -35,7 +35,7 @@ returns-in-AskRetailer g c = record {
   law = λ s h f.
       let call = AskRetailer c.in-AskRetailer.retailer c.in-AskRetailer.date in
       rw c.in-AskRetailer.is (
-        c.sum-answered.ensures ∙ (c.ask-retailer.ensures (g.E.Estimator.meaning c.args.estimator.now) (g.E.Weather.under c.args.estimator.now)).law s h f,
+        c.sum_answered.ensures ∙ (c.ask_retailer.ensures (g.E.Estimator.meaning c.args.estimator.now) (g.E.Weather.under c.args.estimator.now)).law s h f,
         subst (λ (x : History). Follows s x c.args.self.now (g.E.Estimator.meaning c.args.estimator.now) (g.E.Weather.under c.args.estimator.now)) (sym (asked_stays h (refusal s h call))) f,
       );
 }

@@ -9,16 +9,16 @@ use Rattle.sheet.specs.declared.state.Sheet.{Sheet}
 use Rattle.book.proofs.Steps.{accepted_entry, entry_granted, ledger_follows, no_count_entry, refusal_answers, refused_follows, same_book}
 use Rattle.book.proofs.book.Book.take_in.Goals as goal
 
-pub returns-in-err-entry : goal.returns-in-err-entry
-returns-in-err-entry g c =
-    let p = err_from_is_err_and c.from-residual.result c.from-residual.ensures.1 in
+pub returns-in_err-entry : goal.returns-in_err-entry
+returns-in_err-entry g c =
+    let p = err_from_is_err_and c.from_residual.result c.from_residual.ensures.1 in
     let book = c.args.self.now in
-    let e = c.in-err-entry.field-0.0 in
+    let e = c.in_err-entry.field-0.0 in
     rw (p.1, p.2) record {
-      refused = λ b left. record { same = same_book b book (subst (λ (r : Result Entry Refusal). IfErr r (λ _. book.ledger ≡ b.ledger)) c.in-err-entry.was left.ledger) left.sheet };
+      refused = λ b left. record { same = same_book b book (subst (λ (r : Result Entry Refusal). IfErr r (λ _. book.ledger ≡ b.ledger)) c.in_err-entry.was left.ledger) left.sheet };
       law = λ call b answered. record {
         law = λ s h f.
-            let told = subst (λ (r : Result Entry Refusal). Answered call b.ledger r book.ledger) c.in-err-entry.was answered.answered s h f.entries in (
+            let told = subst (λ (r : Result Entry Refusal). Answered call b.ledger r book.ledger) c.in_err-entry.was answered.answered s h f.entries in (
               refusal_answers s h call e told.0.0 told.0.1,
               refused_follows s h call (number_of e) book _ _ told.0.0 (ledger_follows f told.1 answered.sheet),
             );
@@ -31,8 +31,8 @@ returns g c = record {
   law = λ call b answered. record {
     law = λ s h f.
         let book = c.args.self.now in
-        let entry = c.in-ok-entry.entry in
-        let told = subst (λ (r : Result Entry Refusal). Answered call b.ledger r book.ledger) c.in-ok-entry.was answered.answered s h f.entries in
+        let entry = c.in_ok-entry.entry in
+        let told = subst (λ (r : Result Entry Refusal). Answered call b.ledger r book.ledger) c.in_ok-entry.was answered.answered s h f.entries in
         let done = accepted_entry s h call entry book.ledger b c.follow.new.self _ _ f told.0 told.1 c.follow.ensures.ledger (no_count_entry s call answered.no_count)
         (λ lawful entries on stood. c.follow.ensures.law s h lawful entries on (subst (λ (x : Sheet). Stands s h x) (sym answered.sheet) stood)) in
         (entry_granted s h call entry told.0.1 ∙ done.0, done.1);
