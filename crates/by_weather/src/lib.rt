@@ -1,5 +1,6 @@
 // Estimates by weather: a point's base load, and its sensitivity times the day's degree days.
 #![tactic(auto)]
+
 mod by_weather;
 mod factors;
 mod figures;

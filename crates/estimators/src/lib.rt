@@ -1,5 +1,6 @@
 // Estimates for the days that no reading covers. Every kind of estimator stands behind one interface.
 #![tactic(auto)]
+
 mod cap;
 mod estimator;
 mod fall_back;

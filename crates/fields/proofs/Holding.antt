@@ -1,5 +1,5 @@
 -- Each kind of field holds texts of one sort. Assumes nothing.
-use Rattle.std.proofs.Common.{◌≡◌, ℕ, zero, suc, ◌+◌, ◌-◌, ◌^◌, ◌<◌, ◌≤◌, Bool, true, false, cond, not, ◌&&◌, T, eqb, ltb, leb, List, ◌++◌, length, ℤ, pos, negsuc, neg_ℤ, nat_abs, ◌≤ℤ◌, is_err, IsErrAnd, Ok, Err, decimal, Result, sym, refl, ap, ◌∙◌, subst, arith, lit<, ltb→lt, lt→ltb}
+use Rattle.std.proofs.Common.{◌≡◌, ℕ, zero, suc, ◌+◌, ◌-◌, ◌^◌, ◌<◌, ◌≤◌, Bool, true, false, cond, not, ◌&&◌, T, eqb, List, ◌++◌, length, ℤ, pos, negsuc, neg_ℤ, nat_abs, ◌≤ℤ◌, is_err, IsErrAnd, Ok, Err, decimal, Result, sym, refl, ap, ◌∙◌, subst, arith, lit<, ltb→lt, lt→ltb}
 use native.Mathlib.Nat.{pow-le-pow_right}
 use lib.Dec.{leb-suc-zero}
 use lib.Signed.{lt_z}

@@ -5,7 +5,7 @@ use lib.ListN.{length-replicate}
 use Rattle.std.proofs.lemmas.List.{set_at, replicate_more}
 use Rattle.std.proofs.lemmas.Bool.Decides.{nat_tests}
 use Rattle.fields.specs.Columns.{digits_kept}
-use Rattle.fields.specs.Texts.{sign, columns_of, text_columns, text_fits}
+use Rattle.fields.specs.Texts.{columns_of, text_columns, text_fits}
 use Rattle.fields.specs.declared.text.Text.{Text}
 use Rattle.fields.proofs.Digits.{length_kept}
 

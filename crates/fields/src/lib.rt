@@ -1,5 +1,6 @@
 // The columns of a line: what may stand in a field of ten columns and in the letter's column, read and written.
 #![tactic(auto)]
+
 mod blank;
 mod date;
 mod letter;

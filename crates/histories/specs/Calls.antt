@@ -1,11 +1,10 @@
 -- When a call is refused, and the entry that it makes when it is not.
-use Rattle.std.specs.Prelude.{◌≡◌, ℕ, ◌+◌, ◌-◌, Bool, true, false, cond, not, ◌&&◌, ◌||◌, List, [], ◌∷◌, length, ℤ, pos, negsuc, is_some, Some, None, count_by, Option, ◌==◌, nat_le, nat_lt}
+use Rattle.std.specs.Prelude.{◌≡◌, ℕ, ◌+◌, ◌-◌, Bool, true, false, cond, not, ◌&&◌, ◌||◌, List, [], ◌∷◌, ℤ, pos, negsuc, is_some, Some, None, count_by, Option, ◌==◌, nat_le, nat_lt}
 use Rattle.std.specs.List.{range_with_len}
 use Rattle.calendar.specs.Digits.{date_numbered, day_number_of, is_date}
 use Rattle.estimators.specs.Limits.{greatest_count}
 use Rattle.loads.specs.Loads.{largest_gate}
 use Rattle.readings.specs.Types.{firm}
-use Rattle.readings.specs.declared.ReadingType.{ReadingType}
 use Rattle.histories.specs.Figures.{load}
 use Rattle.histories.specs.History.{History, Setting, enrolment_of}
 use Rattle.histories.specs.Readings.{held_of, mark, replaces, some_reading}

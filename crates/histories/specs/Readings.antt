@@ -1,8 +1,7 @@
 -- The readings that a book holds, and the marks and joined days that they make.
-use Rattle.std.specs.Prelude.{ℕ, Bool, true, false, cond, not, ◌&&◌, ◌||◌, List, [], ◌∷◌, Some, None, filter, Option, ◌==◌, nat_lt}
+use Rattle.std.specs.Prelude.{ℕ, Bool, false, not, ◌&&◌, ◌||◌, List, [], ◌∷◌, Some, None, filter, Option, ◌==◌, nat_lt}
 use Rattle.histories.specs.History.{History, covers, enrolment_of}
 use Rattle.histories.specs.declared.entry.Enrolment.{Enrolment}
-use Rattle.histories.specs.declared.entry.Entry.{Entry}
 use Rattle.histories.specs.declared.entry.Entry.TheVariants.{Enrolled, GateEntered, IntervalEntered, DegreeDaysEntered, ReadingTaken}
 use Rattle.histories.specs.declared.entry.Reading.{Reading}
 

@@ -1,7 +1,7 @@
 -- What holds of loads and weights.
 use Rattle.std.proofs.Common.{◌≡◌, ℕ, ◌<◌, ◌≤◌, leb, arith}
 use Rattle.std.proofs.lemmas.Bool.Decides.{nat_tests}
-use Rattle.loads.specs.Loads.{largest_gate, net_load, weight}
+use Rattle.loads.specs.Loads.{net_load, weight}
 
 -- every day weighs something
 pub weight_positive : (load : ℕ) → 0 < weight load

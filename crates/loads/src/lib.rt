@@ -1,5 +1,6 @@
 // The net system load of a gas day, and the weight that it gives the day.
 #![tactic(auto)]
+
 ghost use Rattle.std.specs.Prelude.{◌≡◌};
 ghost use Rattle.refusals.specs.Answers.{Answers};
 ghost use Rattle.loads.specs.Loads.{adjustable, adjusted, loadable, net_load, weight};

@@ -1,5 +1,6 @@
 // The types of readings.
 #![tactic(auto)]
+
 ghost use Rattle.std.specs.Prelude.{◌≡◌};
 ghost use Rattle.readings.specs.Types.{firm};
 

@@ -1,5 +1,6 @@
 // Why a line or a call is refused: one case for each reason, in the order in which the checks run.
 #![tactic(auto)]
+
 mod layer;
 mod refusal;
 

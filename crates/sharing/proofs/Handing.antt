@@ -1,5 +1,5 @@
 -- Rows that take their shares one after the other. Assumes nothing.
-use Rattle.std.proofs.Common.{◌≡◌, ℕ, zero, suc, ◌+◌, ◌<◌, ◌≤◌, List, [], ◌∷◌, map, length, get_or, take, set, sym, refl, ap, ◌∙◌, le_of_suc-le-suc, not-suc-le-zero, add-one, arith}
+use Rattle.std.proofs.Common.{◌≡◌, ℕ, zero, suc, ◌+◌, ◌<◌, ◌≤◌, List, [], ◌∷◌, map, length, get_or, take, set, refl, ap, le_of_suc-le-suc, not-suc-le-zero, add-one, arith}
 use Rattle.sharing.specs.Rows.{handed}
 
 module _ {R : Type 0} (takes : R → ℕ → R) where

@@ -1,5 +1,5 @@
 -- Products that pass the limit of a sharing, and those that keep within it. Assumes nothing.
-use Rattle.std.proofs.Common.{◌≡◌, ℕ, ◌-◌, ◌*◌, ◌/◌, ◌^◌, ◌<◌, ◌≤◌, eqb, leb, sym, ap, ◌∙◌, ⊎_elim, mul-le-mul_right, mul_assoc, mul-le-mul_left, mul-zero, zero-mul, arith}
+use Rattle.std.proofs.Common.{◌≡◌, ℕ, ◌-◌, ◌*◌, ◌/◌, ◌^◌, ◌<◌, ◌≤◌, eqb, leb, sym, ◌∙◌, ⊎_elim, mul-le-mul_right, mul_assoc, mul-le-mul_left, mul-zero, zero-mul, arith}
 use native.Mathlib.Nat.{zero-div, min-le_left}
 use Rattle.std.proofs.lemmas.Bool.{cases_lt, ne_eqb, lt-leb, eq-eqb, le-leb}
 use Rattle.sharing.specs.Limits.{largest_product}

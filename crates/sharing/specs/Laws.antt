@@ -1,6 +1,6 @@
 -- What holds of the shares whatever the formula. Those who build on sharing cite these laws and not the formula.
-use Rattle.std.specs.Prelude.{◌≡◌, ℕ, zero, suc, ◌+◌, ◌-◌, ◌*◌, ◌/◌, ◌<◌, ◌≤◌, ◌⊎◌, List, [], ◌∷◌, map, length, sum, slice_index, slice_index_or, refl}
-use Rattle.std.proofs.Common.{sym, ap, ◌∙◌, inl, inr, ⊎_elim, mul-div_cancel, mul-zero, mul-add, mul-le-mul_right, div-mul-le_self, add-one, arith}
+use Rattle.std.specs.Prelude.{◌≡◌, ℕ, zero, suc, ◌+◌, ◌-◌, ◌*◌, ◌/◌, ◌<◌, ◌≤◌, List, map, length, sum, slice_index, slice_index_or}
+use Rattle.std.proofs.Common.{sym, ap, ◌∙◌, ⊎_elim, mul-div_cancel, mul-zero, mul-add, mul-le-mul_right, div-mul-le_self, add-one, arith}
 use Rattle.std.proofs.Math.Nat.{add-mul-div_left, zero-div}
 use Rattle.std.specs.List.{range_with_len}
 use Rattle.std.proofs.lemmas.Nat.{le-div}

@@ -1,4 +1,3 @@
-use Rattle.std.proofs.Common.{rules}
 use Rattle.sharing.proofs.Products.{large_product}
 use Rattle.sharing.proofs.by_weight.product_within.Goals as goal
 

@@ -1,6 +1,6 @@
 use Rattle.std.proofs.Common.{refl, arith}
 use Rattle.sharing.specs.Laws.{shares_keep}
-use Rattle.sharing.proofs.Turns.{Turn, turn, taken_none, taken_more, taken_all}
+use Rattle.sharing.proofs.Turns.{turn, taken_none, taken_more, taken_all}
 use Rattle.sharing.proofs.by_weight.share.Goals as goal
 
 pub returns-in_default : goal.returns-in_default
