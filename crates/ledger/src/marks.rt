@@ -1,6 +1,6 @@
-ghost use Rattle.std.specs.Prelude.{◌≡◌, count_by};
-ghost use Rattle.histories.specs.Calls.{after_all_marks, started_before};
-ghost use Rattle.histories.specs.History.{History, Setting};
+ghost use Rattle.std.specs.Prelude.{◌≡◌, count_by, not};
+ghost use Rattle.histories.specs.Calls.{after_all_marks, end_not_allowed, started_before};
+ghost use Rattle.histories.specs.History.{History, Setting, enrolment_of};
 ghost use Rattle.histories.specs.Readings as held;
 ghost use Rattle.reading_places.specs.Places.{placed};
 ghost use Rattle.ledger.specs.Marks.{after_marks_at, end_allowed_at, mark_at, some_at};
@@ -13,7 +13,8 @@ use reading_places::{EndsFrom, EndsOn, ReadingTest, count_passing};
 impl Ledger {
     // How many held readings pass a test.
     pub(crate) fn count_held<C: ReadingTest>(&self, test: &C) -> usize
-        ensures { result ≡ count_by (placed (C.ReadingTest.passes test.now)) self.now.places.items }
+        ensures value { result ≡ count_by (placed (C.ReadingTest.passes test.now)) self.now.places.items }
+        ensures law { (s : Setting) (h : History) → Follows s h self.now → result ≡ count_by (C.ReadingTest.passes test.now) (held.held_of h) }
     {
         count_passing(self.places.as_slice(), test)
     }
@@ -27,7 +28,8 @@ impl Ledger {
 
     // Whether a point starts on a day.
     fn starts_on(&self, point: u32, day: u32) -> bool
-        ensures { result ≡ held.starts (enrolment_at self.now point) day }
+        ensures value { result ≡ held.starts (enrolment_at self.now point) day }
+        ensures law { (s : Setting) (h : History) → Follows s h self.now → result ≡ held.starts (enrolment_of h point) day }
     {
         match self.enrolment(point) {
             Some(enrolment) => enrolment.start == day,
@@ -37,7 +39,8 @@ impl Ledger {
 
     // Whether a point starts before a day.
     fn starts_before(&self, point: u32, day: u32) -> bool
-        ensures { result ≡ started_before (enrolment_at self.now point) day }
+        ensures value { result ≡ started_before (enrolment_at self.now point) day }
+        ensures law { (s : Setting) (h : History) → Follows s h self.now → result ≡ started_before (enrolment_of h point) day }
     {
         match self.enrolment(point) {
             Some(enrolment) => enrolment.start < day,
@@ -60,12 +63,20 @@ impl Ledger {
     }
 
     // Whether a reading ends after its start, and at a mark or later than every mark.
-    pub(crate) fn may_end(&self, reading: &Reading) -> bool
+    fn ends_at_or_after_marks(&self, reading: &Reading) -> bool
         ensures { result ≡ end_allowed_at self.now reading.now }
     {
         reading.start < reading.end
             && (self.has_mark(reading.point, reading.end)
                 || self.has_only_earlier_marks(reading.point, reading.end))
+    }
+
+    // The same, which is whether the rules allow the end of a reading.
+    pub(crate) fn may_end(&self, reading: &Reading) -> bool
+        ensures value { result ≡ end_allowed_at self.now reading.now }
+        ensures law { (s : Setting) (h : History) → Follows s h self.now → end_not_allowed h reading.now ≡ not result }
+    {
+        self.ends_at_or_after_marks(reading)
     }
 
     // Whether a day is a mark of a point: its start day, or the end of a reading that it holds.

@@ -1,4 +1,5 @@
 ghost use Rattle.std.specs.Prelude.{◌≡◌, ◌<◌, ◌≤◌, not, vec_len, count_by, OnOk};
+ghost use Rattle.histories.specs.Calls.{soft_over_firm};
 ghost use Rattle.histories.specs.History.{History, Setting};
 ghost use Rattle.histories.specs.Readings as held;
 ghost use Rattle.ledger.specs.Judging.{SpanJudged};
@@ -12,11 +13,19 @@ use reading_places::{FirmReplacedBy, KeptBeside};
 use refusals::Refusal;
 
 impl Ledger {
-    // Whether a reading is soft and would replace a firm one.
-    fn is_soft_over_firm(&self, reading: &Reading) -> bool
+    // Whether a reading is soft and a firm one that it would replace is held.
+    fn softens_a_firm_one(&self, reading: &Reading) -> bool
         ensures { result ≡ soft_over_firm_at self.now reading.now }
     {
         !reading.reading_type.is_firm() && self.holds_some(&FirmReplacedBy { new: *reading })
+    }
+
+    // The same, which is whether the rules refuse a reading as soft over firm.
+    fn is_soft_over_firm(&self, reading: &Reading) -> bool
+        ensures value { result ≡ soft_over_firm_at self.now reading.now }
+        ensures law { (s : Setting) (h : History) → Follows s h self.now → result ≡ soft_over_firm h reading.now }
+    {
+        self.softens_a_firm_one(reading)
     }
 
     // Whether the readings that stay beside a new one leave no place for it.
