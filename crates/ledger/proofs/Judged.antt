@@ -1,5 +1,5 @@
 -- The refusal of a reading, from the tests that lead to it. Assumes nothing.
-use Rattle.std.proofs.Common.{◌≡◌, ℕ, ◌+◌, Bool, true, false, cond, ◌&&◌, eqb, ℤ, is_some, Some, None, Ok, Err, Option, Result, sym, refl, ap, ◌∙◌, arith}
+use Rattle.std.proofs.Common.{◌≡◌, ℕ, ◌+◌, Bool, true, false, cond, ◌&&◌, eqb, ℤ, is_some, Some, None, Ok, Err, Option, sym, refl, ap, ◌∙◌, arith}
 use Rattle.std.proofs.lemmas.Bool.{and_from, cond-false, cond-true, not_from_false, not_from_true}
 use Rattle.std.specs.Option.{option_or}
 use Rattle.calendar.specs.Digits.{date_numbered, day_number_of, is_date}

@@ -1,12 +1,11 @@
 -- The load of a day, from what a ledger says of it. Assumes nothing.
-use Rattle.std.proofs.Common.{◌≡◌, ℕ, ◌+◌, ◌-◌, ◌*◌, ◌/◌, ◌<◌, ◌≤◌, Bool, true, false, cond, ◌&&◌, T, ltb, leb, List, [], ◌∷◌, map, length, get_or, take, is_some, IfSome as found, Some, None, Ok, Err, vec_items, sum, Option, Result, sym, refl, ap, ◌∙◌, div-lt_iff_lt-mul, arith, get_or-take}
+use Rattle.std.proofs.Common.{◌≡◌, ℕ, ◌+◌, ◌-◌, ◌*◌, ◌/◌, ◌<◌, ◌≤◌, Bool, true, false, ◌&&◌, T, ltb, leb, List, [], ◌∷◌, map, length, get_or, take, IfSome as found, Some, None, Ok, Err, vec_items, sum, Result, sym, refl, ap, ◌∙◌, div-lt_iff_lt-mul, arith, get_or-take}
 use Rattle.std.proofs.lemmas.List.FromFn.{map-range_with_len_more}
 use Rattle.std.proofs.lemmas.List.{get_or_read}
 use Rattle.std.proofs.lemmas.List.Sums.{sum_by_push}
 use Rattle.std.proofs.lemmas.Bool.{and_from, and_parts, le-leb, le-ltb, lt-ltb, leb-true}
 use Rattle.std.proofs.lemmas.Bool.Decides.{nat_tests}
-use Rattle.std.specs.List.{range_with_len, list_all}
-use Rattle.std.specs.Option.{option_map}
+use Rattle.std.specs.List.{range_with_len}
 use Rattle.std.specs.Result.{result_ok}
 use Rattle.estimators.proofs.Tables.{read_passes}
 use Rattle.histories.specs.Figures as figures
@@ -16,7 +15,7 @@ use Rattle.loads.specs.Loads as loads
 use Rattle.refusals.specs.Answers.{Answers, accepted_since}
 use Rattle.refusals.specs.declared.refusal.Refusal.{Refusal}
 use Rattle.ledger.specs.Limits.{gate_within, interval_within, opening_within}
-use Rattle.ledger.specs.Told.{Follows, gate_at, interval_at, meters_sum}
+use Rattle.ledger.specs.Told.{Follows, interval_at, meters_sum}
 use Rattle.ledger.specs.declared.opening.Opening.{Opening}
 use Rattle.ledger.specs.declared.state.Ledger.{Ledger}
 

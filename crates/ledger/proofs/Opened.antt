@@ -1,5 +1,5 @@
 -- A ledger that opens has been told nothing. Assumes nothing.
-use Rattle.std.proofs.Common.{◌≡◌, ℕ, zero, suc, ◌+◌, ◌-◌, ◌*◌, ◌<◌, ◌≤◌, min, Bool, true, false, cond, not, ◌&&◌, ◌||◌, T, ltb, leb, List, [], ◌∷◌, ◌++◌, map, length, get_or, take, drop, replicate, Some, None, vec_items, vec_len, count_by, Option, sym, refl, ap, ◌∙◌, ⊎_elim, zero-add, arith}
+use Rattle.std.proofs.Common.{◌≡◌, ℕ, zero, suc, ◌+◌, ◌-◌, ◌*◌, ◌<◌, ◌≤◌, min, Bool, true, false, cond, not, ◌&&◌, T, ltb, leb, List, [], ◌∷◌, ◌++◌, map, length, get_or, take, drop, replicate, Some, None, vec_items, vec_len, count_by, Option, sym, refl, ap, ◌∙◌, ⊎_elim, zero-add, arith}
 use Rattle.std.proofs.lemmas.List.{drop_all, drop_at, get_or_append_left, length-map, length-take-le, take_all, take-append-le}
 use Rattle.std.proofs.lemmas.Bool.{cases_lt, cond_both, and_from, and_parts, leb-true, ltb-true, not-false, or_parts, true≢false}
 use Rattle.std.specs.List.{list_all}
@@ -7,15 +7,12 @@ use Rattle.calendar.specs.Digits.{day_number_of, is_date}
 use Rattle.calendar.specs.Gregorian.{days_in_all}
 use Rattle.estimators.specs.Meaning.{Meaning}
 use Rattle.histories.specs.Calls.{between, meters}
-use Rattle.histories.specs.declared.entry.Enrolment.{Enrolment}
-use Rattle.histories.specs.declared.entry.GateDay.{GateDay}
 use Rattle.histories.specs.declared.entry.Reading.{Reading}
 use Rattle.reading_places.proofs.Held.{count_cons}
 use Rattle.reading_places.specs.Places.{placed}
 use Rattle.ledger.specs.Limits.{gate_within, interval_within, opening_within}
 use Rattle.ledger.specs.Opened.{beyond, opening_refusal, setting_of, short_lists}
 use Rattle.ledger.specs.Told.{Follows}
-use Rattle.ledger.specs.declared.opening.Opening.{Opening}
 use Rattle.ledger.specs.declared.state.Ledger.{Ledger}
 
 cond_none : (b : Bool) (n : ℕ) (rest : Option ℕ) → cond b (Some n) rest ≡ None → (b ≡ false) × (rest ≡ None)

@@ -1,5 +1,5 @@
 -- What an entry changes in a ledger; all else stays.
-use Rattle.std.specs.Prelude.{◌≡◌, ℕ, ◌+◌, ◌-◌, ◌*◌, Bool, cond, not, ◌&&◌, Some, None, vec_items, vec_len, count_by, slice_set}
+use Rattle.std.specs.Prelude.{◌≡◌, ℕ, ◌+◌, ◌-◌, ◌*◌, Bool, cond, not, ◌&&◌, Some, vec_items, vec_len, count_by, slice_set}
 use Rattle.histories.specs.Readings.{replaces}
 use Rattle.histories.specs.declared.entry.Enrolment.{Enrolment}
 use Rattle.histories.specs.declared.entry.GateDay.{GateDay}

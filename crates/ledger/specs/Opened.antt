@@ -5,7 +5,7 @@ use Rattle.calendar.specs.Digits.{day_number_of, is_date}
 use Rattle.calendar.specs.Gregorian.{days_in_all}
 use Rattle.estimators.specs.Limits.{last_day, last_point}
 use Rattle.estimators.specs.Meaning.{Meaning}
-use Rattle.histories.specs.Calls.{Condition, between, first_holding, meters}
+use Rattle.histories.specs.Calls.{between, first_holding, meters}
 use Rattle.histories.specs.History.{Setting}
 use Rattle.histories.specs.declared.entry.Reading.{Reading}
 use Rattle.loads.specs.Loads.{largest_unaccounted}

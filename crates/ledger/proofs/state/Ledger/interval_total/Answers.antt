@@ -1,4 +1,4 @@
-use Rattle.std.proofs.Common.{◌≡◌, ◌≤◌, arith}
+use Rattle.std.proofs.Common.{◌≡◌, arith}
 use mir.Facts.{Fits-below}
 use Rattle.ledger.proofs.Loads.{interval_here, meters_more, meters_none}
 use Rattle.ledger.proofs.state.Ledger.interval_total.Goals as goal

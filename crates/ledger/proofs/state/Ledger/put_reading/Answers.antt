@@ -1,4 +1,4 @@
-use Rattle.std.proofs.Common.{◌+◌, cond, is_some, vec_items, count_by, sym, refl, ap, ◌∙◌, arith}
+use Rattle.std.proofs.Common.{◌+◌, cond, is_some, vec_items, count_by, refl, ap, ◌∙◌, arith}
 use Rattle.std.proofs.lemmas.Bool.{lt-ltb}
 use Rattle.reading_places.specs.Places.{placed}
 use Rattle.reading_places.proofs.Held.{count_left, count_taken, taken_left}
