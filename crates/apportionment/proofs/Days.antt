@@ -1,6 +1,6 @@
 -- Days weighed one after the other, and lines written one after the other. Assumes nothing.
 use Rattle.std.proofs.Common.{◌≡◌, ℕ, ◌+◌, ◌*◌, ◌<◌, ◌≤◌, true, false, ◌&&◌, leb, List, [], ◌∷◌, ◌++◌, map, length, get_or, take, Ok, Err, Decides, Result, sym, refl, ap, ◌∙◌, ⊎_elim, arith}
-use Rattle.std.specs.List.{AllByRecursion as All, range_with_len}
+use Rattle.std.specs.List.{AllByRecursion, range_with_len}
 use Rattle.std.proofs.lemmas.List.FromFn.{map-range_with_len_more}
 use Rattle.std.proofs.ByRecursion.{All-get_or, All-more, Decides-by_and}
 use Rattle.std.proofs.lemmas.List.{take_all, map-append, map_more, get_or-map, length-map}
@@ -26,7 +26,7 @@ use Rattle.apportionment.specs.Table.{table, weights}
 use Rattle.apportionment.specs.declared.table.DayLine.{DayLine}
 
 abbrev pub Within : List ℕ → Type 0
-Within loads = All (λ load. load ≤ largest_load) loads
+Within loads = AllByRecursion (λ load. load ≤ largest_load) loads
 
 decides_within : (loads : List ℕ) → Decides (loads_within loads) (Within loads)
 decides_within =

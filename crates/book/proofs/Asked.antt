@@ -1,8 +1,8 @@
 -- Questions that are not refused. Assumes nothing.
-use Rattle.std.proofs.Common.{◌≡◌, ℕ, ◌<◌, ◌≤◌, Bool, true, false, cond, not, ◌&&◌, ltb, leb, is_some, Some, None, Ok, Err, Option, Result, unwrap_or, sym, refl, ap, ◌∙◌, arith}
+use Rattle.std.proofs.Common.{◌≡◌, ℕ, ◌<◌, ◌≤◌, true, cond, leb, is_some, Some, None, Option, Result, unwrap_or, ap, ◌∙◌, arith}
 use Rattle.std.proofs.lemmas.Bool.{and_from, and_parts, false≢true, le-leb, leb-true, lt-ltb, not-false}
 use Rattle.std.specs.Option.{option_map, ok_or}
-use Rattle.histories.specs.Calls.{between, place, refusal}
+use Rattle.histories.specs.Calls.{place, refusal}
 use Rattle.histories.specs.Figures.{figure, load}
 use Rattle.histories.specs.History.{History, Setting}
 use Rattle.histories.specs.declared.call.Call.TheVariants.{AskDay, AskFigure, AskRetailer}
@@ -14,7 +14,7 @@ use Rattle.sheet.specs.Told.{Stands}
 use Rattle.sheet.specs.declared.day_figures.DayFigures.{DayFigures}
 use Rattle.sheet.specs.declared.state.Sheet.{Sheet}
 use Rattle.sheet_laws.proofs.Entered.{place_within}
-use Rattle.book.specs.Replies.{Reply, day_is, told}
+use Rattle.book.specs.Replies.{day_is, told}
 
 -- the figure of a point and day that may be asked for is shown
 pub figure_shown : (s : Setting) (h : History) (b : Sheet) (p date : ℕ) → Stands s h b → refusal s h (AskFigure p date) ≡ None → cond (in_sheet b p (place s date)) (cell b p (place s date)) 0 ≡ figure s h p (place s date)

@@ -1,5 +1,5 @@
 -- A run of calls, call by call. Assumes nothing.
-use Rattle.std.proofs.Common.{◌≡◌, ℕ, ◌+◌, ◌<◌, Bool, true, false, ◌&&◌, T, List, [], ◌∷◌, ◌++◌, map, length, get_or, take, drop, set, Some, None, Option, sym, refl, ap, ◌∙◌, subst, arith}
+use Rattle.std.proofs.Common.{◌≡◌, ℕ, ◌+◌, ◌<◌, Bool, true, false, T, List, [], ◌∷◌, ◌++◌, map, length, get_or, take, set, Some, None, Option, sym, refl, ap, ◌∙◌, subst, arith}
 use Rattle.std.proofs.lemmas.List.{take_all, take_more, take_more_set}
 use Rattle.std.specs.List.{list_all}
 use Rattle.estimators.proofs.Tables.{both, first, second}
@@ -10,8 +10,7 @@ use Rattle.histories.specs.declared.call.Call.{Call}
 use Rattle.histories.specs.declared.entry.Entry.{Entry}
 use Rattle.book.specs.Follows.{Follows}
 use Rattle.book.specs.Law.{Law}
-use Rattle.book.specs.Moments.{Moment, Moves}
-use Rattle.book.specs.Replies.{Reply, after, answer, answers_of, history_after, leaves, lengthened, reply}
+use Rattle.book.specs.Replies.{after, answer, answers_of, history_after, leaves, lengthened, reply}
 use Rattle.book.specs.declared.answer.Answer.{Answer}
 use Rattle.book.specs.declared.book.Book.{Book}
 use Rattle.book.proofs.Moment.{moment, moves}

@@ -1,5 +1,5 @@
 -- One call: its answer, and what is followed after it. Assumes nothing.
-use Rattle.std.proofs.Common.{◌≡◌, ℕ, ◌+◌, true, false, ◌∷◌, Some, None, Option, sym, refl, ap, ◌∙◌, subst, arith}
+use Rattle.std.proofs.Common.{◌≡◌, ℕ, false, ◌∷◌, Some, None, Option, sym, refl, ap, ◌∙◌, subst, arith}
 use Rattle.std.proofs.lemmas.Bool.{true≢false}
 use Rattle.std.specs.Option.{option_or}
 use Rattle.estimators.specs.Meaning.{Meaning}
@@ -15,7 +15,7 @@ use Rattle.refusals.specs.Numbers.{number_of, day_named}
 use Rattle.refusals.specs.declared.refusal.Refusal.{Refusal}
 use Rattle.sheet.specs.Told.{Estimates, Stands, Told}
 use Rattle.book.specs.Follows.{Follows}
-use Rattle.book.specs.Replies.{Reply, accepted, after, answer, granted, is_count, lengthened, refused, unless_refused}
+use Rattle.book.specs.Replies.{accepted, after, answer, granted, is_count, lengthened, refused, unless_refused}
 use Rattle.book.specs.declared.book.Book.{Book}
 
 module _ (s : Setting) (h : History) (c : Call) where

@@ -1,6 +1,5 @@
 -- A book and its estimator stand as a history leaves them.
 use Rattle.std.specs.Prelude.{◌≡◌, ℕ, false, IfErr, Result}
-use Rattle.std.specs.Vec as Vec
 use Rattle.estimators.specs.Meaning.{Meaning}
 use Rattle.histories.specs.Calls.{Lawful}
 use Rattle.histories.specs.History.{History, Setting}

@@ -1,9 +1,9 @@
 -- When a book opens.
-use Rattle.std.specs.Prelude.{◌≡◌, ℕ, ◌*◌, Bool, not, ◌&&◌, List, [], ◌∷◌, drop, Some, None, Ok, Err, vec_items, vec_len, Option, Result, Vec, nat_le}
+use Rattle.std.specs.Prelude.{◌≡◌, ℕ, ◌*◌, Bool, not, ◌&&◌, [], ◌∷◌, drop, Some, None, Ok, Err, vec_items, vec_len, Option, Result, Vec, nat_le}
 use Rattle.std.specs.declared.alloc.Global.{Global}
 use Rattle.calendar.specs.Digits.{is_date}
 use Rattle.estimators.specs.Meaning.{Bounded, BoundedUnder, Meaning}
-use Rattle.histories.specs.Calls.{Condition, first_holding, meters}
+use Rattle.histories.specs.Calls.{first_holding, meters}
 use Rattle.histories.specs.History.{Setting}
 use Rattle.histories.specs.declared.entry.Reading.{Reading}
 use Rattle.ledger.specs.Opened.{beyond, setting_of}

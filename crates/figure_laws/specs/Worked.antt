@@ -1,5 +1,5 @@
 -- Days worked by hand, told as what a book has accepted.
-use Rattle.std.specs.Prelude.{◌≡◌, ℕ, cond, [], ◌∷◌, Some, None, Option, ◌==◌}
+use Rattle.std.specs.Prelude.{◌≡◌, ℕ, cond, [], ◌∷◌, Some, None, ◌==◌}
 use Rattle.readings.specs.declared.ReadingType.TheVariants.{Actual}
 use Rattle.histories.specs.Figures.{excess, figure, generated_sum, load, missing, remainder, retailer_sum, supplied_sum}
 use Rattle.histories.specs.History.{History, Setting}

@@ -1,6 +1,6 @@
 -- What is known of an entry since its call was accepted. Assumes nothing.
 use Rattle.std.proofs.Common.{◌≡◌, ℕ, ◌+◌, ◌<◌, ◌≤◌, Bool, true, false, cond, not, ◌||◌, ltb, List, [], ◌∷◌, is_some, Some, None, count_by, Option, sym, refl, ap, ◌∙◌}
-use Rattle.std.specs.List.{AllByRecursion as All}
+use Rattle.std.specs.List.{AllByRecursion}
 use Rattle.std.proofs.lemmas.Bool.{true≢false, and_parts, ltb-true, ltb-false, not-false}
 use Rattle.histories.specs.Calls.{Condition, Lawful, after_all_marks, conditions, end_not_allowed, enrolled_already, entry_of, first_holding, of_reading, places_full, refusal, soft_over_firm, start_no_mark}
 use Rattle.histories.specs.History.{History, Setting, enrolment_of}
@@ -17,12 +17,12 @@ passed_over true n rest e = absurd (true≢false (ap is_some e))
 passed_over false n rest e = (refl, e)
 
 -- where no condition is the first to hold, none holds
-pub none_holds : (cs : List Condition) → first_holding cs ≡ None → All (λ c. c.holds ≡ false) cs
+pub none_holds : (cs : List Condition) → first_holding cs ≡ None → AllByRecursion (λ c. c.holds ≡ false) cs
 none_holds [] e = tt
 none_holds (c ∷ cs) e = let passed = passed_over c.holds c.number (first_holding cs) e in (passed.0, none_holds cs passed.1)
 
 -- none of the conditions of an accepted call holds
-pub accepted : (s : Setting) (h : History) (c : Call) → refusal s h c ≡ None → All (λ x. x.holds ≡ false) (conditions s h c)
+pub accepted : (s : Setting) (h : History) (c : Call) → refusal s h c ≡ None → AllByRecursion (λ x. x.holds ≡ false) (conditions s h c)
 accepted s h c e = none_holds (conditions s h c) e
 
 -- a reading that was accepted starts at a mark, ends after its start, at a mark or later than all, does not replace firm readings if it is soft, and has a place

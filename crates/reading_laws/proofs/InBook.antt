@@ -1,7 +1,7 @@
 -- Held readings lie in the book, and their days have loads. Assumes nothing.
 use Rattle.std.proofs.Common.{◌≡◌, ℕ, ◌+◌, ◌-◌, ◌<◌, ◌≤◌, Bool, true, false, cond, not, ltb, leb, List, [], ◌∷◌, length, get_or, ℤ, pos, negsuc, is_some, Some, None, Option, sym, refl, ap, ◌∙◌, subst, inl, inr, arith}
 use Rattle.std.specs.Option.{option_map, option_or}
-use Rattle.std.specs.List.{AllByRecursion as All}
+use Rattle.std.specs.List.{AllByRecursion}
 use Rattle.std.proofs.lemmas.List.FromFn.{get_or-range_with_len, length-range_with_len}
 use Rattle.std.proofs.ByRecursion.{All-get_or}
 use Rattle.std.proofs.lemmas.Bool.{and_parts, leb-true, ltb-true, not-false, true≢false}
@@ -92,7 +92,7 @@ all_loaded_by : (b : Bool) (d : ℕ) (rest : Option ℕ) → is_some (cond b res
 all_loaded_by true d rest e = (refl, e)
 all_loaded_by false d rest e = absurd (true≢false e)
 
-all_loaded : (s : Setting) (h : History) (ds : List ℕ) → is_some (first_without_load s h ds) ≡ false → All (λ d. is_some (load s h d) ≡ true) ds
+all_loaded : (s : Setting) (h : History) (ds : List ℕ) → is_some (first_without_load s h ds) ≡ false → AllByRecursion (λ d. is_some (load s h d) ≡ true) ds
 all_loaded s h [] e = tt
 all_loaded s h (d ∷ ds) e =
     let here = all_loaded_by (is_some (load s h d)) d (first_without_load s h ds) e in

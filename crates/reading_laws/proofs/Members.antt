@@ -1,6 +1,6 @@
 -- Readings among others: tests, filters, and readings that lie apart. Assumes nothing.
 use Rattle.std.proofs.Common.{◌≡◌, ℕ, zero, suc, ◌+◌, ◌<◌, ◌≤◌, Bool, true, false, cond, not, ◌||◌, ◌⊎◌, List, [], ◌∷◌, length, get_or, is_some, Some, None, count_by, filter, Option, unwrap_or, sym, refl, ap, ◌∙◌, inl, inr, ⊎_elim, le_of_suc-le-suc, not-suc-le-zero, arith}
-use Rattle.std.specs.List.{AllByRecursion as All}
+use Rattle.std.specs.List.{AllByRecursion}
 use Rattle.std.proofs.ByRecursion.{all_kept_by, All-weaker, kept_by_passes}
 use Rattle.std.proofs.lemmas.List.Sums.{sum_by-cons}
 use Rattle.std.proofs.lemmas.Bool.{cases_Bool, cond-false, cond-true, false≢true, not-true, or_cases, or_left, or_right}
@@ -25,7 +25,7 @@ among_some test (o ∷ os) r (inl same) t = or_left (test o) (some_reading test 
 among_some test (o ∷ os) r (inr later) t = or_right (test o) (some_reading test os) (among_some test os r later t)
 
 -- what holds of all holds of one among them
-pub all_among : (P : Reading → Type 0) (rs : List Reading) (r : Reading) → All P rs → Among r rs → P r
+pub all_among : (P : Reading → Type 0) (rs : List Reading) (r : Reading) → AllByRecursion P rs → Among r rs → P r
 all_among P [] r all a = absurd a
 all_among P (o ∷ os) r all (inl same) = rw same at all.0
 all_among P (o ∷ os) r all (inr later) = all_among P os r all.1 later
@@ -55,7 +55,7 @@ module _ (r : Reading) where
   kept_among test [] a = absurd a
   kept_among test (o ∷ os) a = kept_back test (test o) o os (filter test os) refl (λ later. kept_among test os later) a
 
-apart_cond : (b : Bool) (r : Reading) (ks : List Reading) → All (λ o. replaces r o ≡ false) ks → Apart ks → Apart (cond b (r ∷ ks) ks)
+apart_cond : (b : Bool) (r : Reading) (ks : List Reading) → AllByRecursion (λ o. replaces r o ≡ false) ks → Apart ks → Apart (cond b (r ∷ ks) ks)
 apart_cond true r ks all apart = (all, apart)
 apart_cond false r ks all apart = apart
 

@@ -1,6 +1,6 @@
 -- Readings among others, and what it means that they lie apart.
 use Rattle.std.specs.Prelude.{◌≡◌, ℕ, Bool, true, false, cond, ◌⊎◌, List, [], ◌∷◌, Some, None, filter, Option, ◌==◌, nat_eq}
-use Rattle.std.specs.List.{AllByRecursion as All}
+use Rattle.std.specs.List.{AllByRecursion}
 use Rattle.histories.specs.History.{History}
 use Rattle.histories.specs.Readings.{held_of, replaces}
 use Rattle.histories.specs.declared.entry.Entry.{Entry}
@@ -19,7 +19,7 @@ Held h r = Among r (held_of h)
 -- no two of some readings share a day of a point
 abbrev pub Apart : List Reading → Type 0
 Apart [] = Unit {0}
-Apart (r ∷ rs) = All (λ o. replaces r o ≡ false) rs × Apart rs
+Apart (r ∷ rs) = AllByRecursion (λ o. replaces r o ≡ false) rs × Apart rs
 
 -- the first of some readings that passes a test
 abbrev pub first_reading : (Reading → Bool) → List Reading → Option Reading

@@ -1,5 +1,5 @@
 -- The answers to questions about a day.
-use Rattle.std.specs.Prelude.{ℕ, Bool, cond, ◌&&◌, Option, nat_le, nat_lt}
+use Rattle.std.specs.Prelude.{ℕ, Bool, ◌&&◌, Option, nat_le, nat_lt}
 use Rattle.std.specs.Option.{option_map}
 use Rattle.estimators.specs.Meaning.{Bounded, BoundedUnder}
 use Rattle.histories.specs.Figures as law

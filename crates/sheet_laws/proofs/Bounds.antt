@@ -1,6 +1,6 @@
 -- Why no number of a sheet passes its limit. Assumes nothing.
 use Rattle.std.proofs.Common.{◌≡◌, ℕ, ◌+◌, ◌-◌, ◌*◌, ◌<◌, ◌≤◌, Bool, true, false, cond, ◌&&◌, eqb, ltb, leb, List, [], ◌∷◌, map, length, get_or, Some, None, sum, Option, unwrap_or, sym, refl, ap, ◌∙◌, ⊎_elim, arith}
-use Rattle.std.specs.List.{range_with_len, AllByRecursion as All}
+use Rattle.std.specs.List.{range_with_len, AllByRecursion}
 use Rattle.std.specs.Option.{option_map, option_or}
 use Rattle.std.proofs.lemmas.Nat.{mul-le}
 use Rattle.std.proofs.lemmas.List.FromFn.{get_or-range_with_len, get_or-map-range_with_len, length-range_with_len, length-map-range_with_len}
@@ -38,7 +38,7 @@ share_most c ws k some =
 -- a row of n comes to at most n times its largest
 pub sum_bounded : (f : ℕ → ℕ) (most a n : ℕ) → ((k : ℕ) → a ≤ k → k < a + n → f k ≤ most) → sum (map f (range_with_len a n)) ≤ n * most
 sum_bounded f most a n within =
-    let each : All (λ k. f k ≤ most) (range_with_len a n)
+    let each : AllByRecursion (λ k. f k ≤ most) (range_with_len a n)
     = All-from_get_or (λ k. f k ≤ most) (range_with_len a n) 0
     (λ i h.
     let low : i < n = omega (arith, length-range_with_len a n) in

@@ -1,5 +1,5 @@
 -- What an accepted entry keeps to.
-use Rattle.std.specs.Prelude.{ℕ, ◌<◌, ◌≤◌, ◌∷◌, Some, None, Option}
+use Rattle.std.specs.Prelude.{◌<◌, ◌≤◌, ◌∷◌, Some, None, Option}
 use Rattle.estimators.specs.Limits.{greatest_count}
 use Rattle.histories.specs.Calls.{Lawful}
 use Rattle.histories.specs.History.{History, Setting}

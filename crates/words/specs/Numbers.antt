@@ -1,6 +1,6 @@
 -- What a word of a command line says.
 use Rattle.std.specs.Prelude.{◌≡◌, ℕ, ◌+◌, ◌-◌, ◌*◌, ◌<◌, ◌≤◌, List, length, Ok, Err, fold, Result}
-use Rattle.std.specs.List.{AllByRecursion as All}
+use Rattle.std.specs.List.{AllByRecursion}
 use Rattle.words.specs.declared.numbers.WordFault.{WordFault}
 use Rattle.words.specs.declared.numbers.WordFault.TheVariants.{NotANumber, BeyondLimit}
 
@@ -10,7 +10,7 @@ Digit c = (48 ≤ c) × (c ≤ 57)
 
 -- one decimal digit or more, and nothing else
 abbrev pub Numeral : List ℕ → Type 0
-Numeral word = (0 < length word) × All Digit word
+Numeral word = (0 < length word) × AllByRecursion Digit word
 
 -- the number that decimal digits write
 abbrev pub value : List ℕ → ℕ

@@ -1,7 +1,7 @@
 use Rattle.std.proofs.Common.{◌∷◌, sym, refl, subst}
 use Rattle.histories.specs.Calls.{Lawful}
 use Rattle.histories.specs.declared.entry.Entry.{Entry}
-use Rattle.histories.specs.declared.entry.Entry.TheVariants.{DegreeDaysEntered, GateEntered, IntervalEntered}
+use Rattle.histories.specs.declared.entry.Entry.TheVariants.{GateEntered, IntervalEntered}
 use Rattle.ledger.specs.Told.{Follows}
 use Rattle.sheet.specs.Told.{Estimates, Stands}
 use Rattle.sheet_laws.proofs.Entered.{entry_in}

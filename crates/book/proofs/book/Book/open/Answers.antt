@@ -1,4 +1,4 @@
-use Rattle.std.proofs.Common.{◌≡◌, ℕ, ◌*◌, [], drop, None, vec_items, vec_len, refl, ◌∙◌, subst}
+use Rattle.std.proofs.Common.{◌≡◌, ℕ, ◌*◌, drop, None, vec_items, vec_len, refl, subst}
 use Rattle.book.specs.Opened.{opening_refusal, setting}
 use Rattle.book.proofs.Opening.{opened_ledger, opened_sheet}
 use Rattle.book.proofs.book.Book.open.Goals as goal

@@ -1,7 +1,6 @@
-use Rattle.std.proofs.Common.{sym, refl, ap, ◌∙◌, subst}
+use Rattle.std.proofs.Common.{sym, refl, ◌∙◌, subst}
 use Rattle.histories.specs.Calls.{refusal}
 use Rattle.histories.specs.History.{History}
-use Rattle.histories.specs.declared.call.Call.{Call}
 use Rattle.histories.specs.declared.call.Call.TheVariants.{AskDay, AskFigure, AskRetailer}
 use Rattle.book.specs.Follows.{Follows}
 use Rattle.book.proofs.Moment.{asked_stays}

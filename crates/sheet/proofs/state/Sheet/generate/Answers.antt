@@ -1,4 +1,4 @@
-use Rattle.std.proofs.Common.{◌≡◌, ◌-◌, ◌<◌, ◌≤◌, get_or, None, ◌∙◌, arith}
+use Rattle.std.proofs.Common.{◌≡◌, ◌<◌, ◌≤◌, get_or, None, ◌∙◌, arith}
 use Rattle.estimators.proofs.Tables.{read_passes}
 use Rattle.histories.specs.Figures.{supplied_sum}
 use Rattle.sheet_laws.proofs.Bounds.{supplied_sum_bounded}
