@@ -12,7 +12,8 @@ use histories::Call;
 use readings::ReadingType;
 use refusals::Refusal;
 use std::alloc::{AllocError, Global};
-use std::test::*;
+use std::process::Abort;
+use std::test::Fail;
 
 // The days of the books and a few days more, over the end of a leap year's February.
 const DATES: [u32; 18] = [
@@ -348,7 +349,13 @@ fn ask(area: &Area, worked: &Worked, asked: u32, table: &mut Vec<Case>) -> Resul
 }
 
 // The places of a book hold the held readings, and no others.
-fn places_hold(heap: Global, book: &Book, area: &Area) -> Result<(), Fail> {
+fn places_hold(
+    rt: &impl Abort,
+    heap: Global,
+    at: &str,
+    book: &Book,
+    area: &Area,
+) -> Result<(), Fail> {
     let held = area.held(heap)?;
     let mut taken = 0usize;
     for place in book.readings() {
@@ -356,7 +363,7 @@ fn places_hold(heap: Global, book: &Book, area: &Area) -> Result<(), Fail> {
             taken = taken.saturating_add(1);
         }
     }
-    assert_eq!(taken, held.len(), "held readings");
+    assert_eq!(rt; taken, held.len(), "{at}: held readings");
     for due in held.iter() {
         let mut found = false;
         for place in book.readings() {
@@ -368,7 +375,7 @@ fn places_hold(heap: Global, book: &Book, area: &Area) -> Result<(), Fail> {
                         && reading.energy == due.energy.unsigned_abs();
             }
         }
-        assert!(found, "a held reading");
+        assert!(rt; found, "{at}: a held reading");
     }
     Ok(())
 }
@@ -424,28 +431,45 @@ struct Bench {
 
 impl Bench {
     // Holds every figure, answer and list of the book to the recomputation.
-    fn compare(&mut self, heap: Global, met: &mut Met) -> Result<(), Fail> {
+    fn compare(
+        &mut self,
+        rt: &impl Abort,
+        heap: Global,
+        at: &str,
+        met: &mut Met,
+    ) -> Result<(), Fail> {
         let due = all_due(heap, &self.area, met)?;
         serve_table(
+            rt,
             heap,
+            at,
             &mut self.book,
             &mut self.weather,
             due.table.as_slice(),
         )?;
-        begins(self.book.sheet(), due.sheet.as_slice())?;
-        begins(self.book.intervals(), due.intervals.as_slice())?;
-        places_hold(heap, &self.book, &self.area)
+        begins(rt, at, self.book.sheet(), due.sheet.as_slice());
+        begins(rt, at, self.book.intervals(), due.intervals.as_slice());
+        places_hold(rt, heap, at, &self.book, &self.area)
     }
 
     // Serves a call, and holds its answer to the rules.
-    fn tell(&mut self, heap: Global, step: Step, met: &mut Met) -> Result<(), Fail> {
+    fn tell(
+        &mut self,
+        rt: &impl Abort,
+        heap: Global,
+        at: &str,
+        step: Step,
+        met: &mut Met,
+    ) -> Result<(), Fail> {
         let refusal = judge(heap, &self.area, step)?;
         let reply = match refusal {
             Some(refusal) => Reply::Refused(refusal),
             None => Reply::Accepted,
         };
         serve_table(
+            rt,
             heap,
+            at,
             &mut self.book,
             &mut self.weather,
             &[(step.call(), reply)],
@@ -462,8 +486,10 @@ impl Bench {
 }
 
 // One list of calls. All is compared after each of them.
-fn run(heap: Global, seed: u64, size: u32, met: &mut Met) -> Result<(), Fail> {
-    let mut draws = Draws { state: seed };
+fn run(rt: &impl Abort, heap: Global, list: u32, size: u32, met: &mut Met) -> Result<(), Fail> {
+    let mut draws = Draws {
+        state: u64::from(list),
+    };
     let area = draws.area(heap, size)?;
     let weather = weather(&area)?;
     let book = opened(
@@ -481,12 +507,9 @@ fn run(heap: Global, seed: u64, size: u32, met: &mut Met) -> Result<(), Fail> {
     };
     for turn in 0..TURNS {
         let step = draws.step(&bench.area, turn, size);
-        bench
-            .tell(heap, step, met)
-            .note(format_args!("turn {turn}"))?;
-        bench
-            .compare(heap, met)
-            .note(format_args!("after turn {turn}"))?;
+        let at = format!(in heap; "list {list}, turn {turn}")?;
+        bench.tell(rt, heap, &at, step, met)?;
+        bench.compare(rt, heap, &at, met)?;
     }
     let held = bench.area.held(heap)?.len();
     let replaced = bench.area.readings.len().saturating_sub(held);
@@ -511,7 +534,7 @@ fn three_hundred_lists(rt: HostRuntime) -> Result<(), Fail> {
             2 => 20_000,
             _ => 10_000_000,
         };
-        run(rt.alloc(), u64::from(list), size, &mut met).note(format_args!("list {list}"))?;
+        run(&rt, rt.alloc(), list, size, &mut met)?;
     }
     for (number, times) in met.refused.iter().enumerate() {
         if number == 3 || 5 <= number && number <= 13 {

@@ -5,14 +5,16 @@ use super::calls::{
 use super::plain_estimators::{Greatest, Silent};
 use estimators::{Estimator, Weather};
 use refusals::Refusal;
-use std::test::*;
+use std::test::Fail;
 
 // Every estimated point is missing, and what is not supplied is the remainder.
 #[test]
 fn beside_a_silent_estimator(rt: HostRuntime) -> Result<(), Fail> {
     let mut book = opened(rt.alloc(), 20240701, 2, 3, 0, 4)?;
     serve_table(
+        &rt,
         rt.alloc(),
+        "beside the silent one",
         &mut book,
         &mut Silent,
         &[
@@ -42,7 +44,9 @@ fn beside_a_silent_estimator(rt: HostRuntime) -> Result<(), Fail> {
 fn beside_the_greatest_estimator(rt: HostRuntime) -> Result<(), Fail> {
     let mut book = opened(rt.alloc(), 20240701, 2, 3, 0, 4)?;
     serve_table(
+        &rt,
         rt.alloc(),
+        "beside the greatest one",
         &mut book,
         &mut Greatest,
         &[

@@ -5,7 +5,8 @@ use histories::Call;
 use readings::ReadingType;
 use refusals::Refusal;
 use std::alloc::Global;
-use std::test::*;
+use std::process::Abort;
+use std::test::Fail;
 
 // A call, and what it is to be answered.
 pub(crate) type Case = (Call, Reply);
@@ -100,7 +101,9 @@ pub(crate) fn replied(answer: Answer) -> Reply {
 
 // Serves the calls of a table in one run, and holds each answer to the one beside the call.
 pub(crate) fn serve_table<E: Weather>(
+    rt: &impl Abort,
     heap: Global,
+    at: &str,
     book: &mut Book,
     estimator: &mut E,
     table: &[Case],
@@ -112,7 +115,7 @@ pub(crate) fn serve_table<E: Weather>(
     let mut answers = vec![in heap; Answer::Accepted; calls.len()]?;
     book.serve(estimator, calls.as_slice(), answers.as_mut_slice())?;
     for (i, (given, (_, due))) in answers.iter().zip(table).enumerate() {
-        assert_eq!(replied(*given), *due, "call {i}");
+        assert_eq!(rt; replied(*given), *due, "{at}: call {i}");
     }
     Ok(())
 }
@@ -136,10 +139,13 @@ pub(crate) fn opened(
 }
 
 // A list begins with some values, and every later place holds the seven that it held.
-pub(crate) fn begins(list: &[u64], values: &[u64]) -> Result<(), Fail> {
-    assert!(list.len() > values.len());
+pub(crate) fn begins(rt: &impl Abort, at: &str, list: &[u64], values: &[u64]) {
+    assert!(rt; list.len() > values.len(), "{at}");
     for (i, value) in list.iter().enumerate() {
-        assert_eq!(*value, values.get(i).copied().unwrap_or(7), "place {i}");
+        assert_eq!(rt;
+            *value,
+            values.get(i).copied().unwrap_or(7),
+            "{at}: place {i}"
+        );
     }
-    Ok(())
 }

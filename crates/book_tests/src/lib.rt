@@ -1,5 +1,6 @@
 // Tests of the book: it is proved in its own crate, and only run here.
 #![tactic(auto)]
+
 #[cfg(test)]
 mod at_random;
 #[cfg(test)]

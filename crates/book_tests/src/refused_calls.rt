@@ -6,7 +6,7 @@ use super::calls::{
 use super::plain_estimators::Silent;
 use histories::Call;
 use refusals::Refusal;
-use std::test::*;
+use std::test::Fail;
 
 fn refused(call: Call, refusal: Refusal) -> Case {
     (call, Reply::Refused(refusal))
@@ -22,7 +22,9 @@ fn accepted(call: Call) -> Case {
 fn limits_and_dates(rt: HostRuntime) -> Result<(), Fail> {
     let mut book = opened(rt.alloc(), 20240701, 3, 2, 0, 1)?;
     serve_table(
+        &rt,
         rt.alloc(),
+        "limits and dates",
         &mut book,
         &mut Silent,
         &[
@@ -67,7 +69,9 @@ fn limits_and_dates(rt: HostRuntime) -> Result<(), Fail> {
 fn what_was_told_before(rt: HostRuntime) -> Result<(), Fail> {
     let mut book = opened(rt.alloc(), 20240701, 3, 2, 0, 1)?;
     serve_table(
+        &rt,
         rt.alloc(),
+        "what was told before",
         &mut book,
         &mut Silent,
         &[

@@ -11,7 +11,7 @@ use readings::ReadingType;
 use refusals::Refusal;
 use std::alloc::Global;
 use std::process::Abort;
-use std::test::*;
+use std::test::Fail;
 
 // Point 2 uses 30 megajoules on a day whose count is known.
 fn weather() -> Result<ByWeather, Fail> {
@@ -27,10 +27,12 @@ fn weather() -> Result<ByWeather, Fail> {
 }
 
 // The book once it was told all.
-fn told(heap: Global, weather: &mut ByWeather) -> Result<Book, Fail> {
+fn told(rt: &impl Abort, heap: Global, weather: &mut ByWeather) -> Result<Book, Fail> {
     let mut book = opened(heap, 20240701, 2, 2, 0, 4)?;
     serve_table(
+        rt,
         heap,
+        "told",
         &mut book,
         weather,
         &[
@@ -53,9 +55,11 @@ fn told(heap: Global, weather: &mut ByWeather) -> Result<Book, Fail> {
 #[test]
 fn figures_of_the_small_book(rt: HostRuntime) -> Result<(), Fail> {
     let mut weather = weather()?;
-    let mut book = told(rt.alloc(), &mut weather)?;
+    let mut book = told(&rt, rt.alloc(), &mut weather)?;
     serve_table(
+        &rt,
         rt.alloc(),
+        "figures",
         &mut book,
         &mut weather,
         &[
@@ -76,11 +80,13 @@ fn figures_of_the_small_book(rt: HostRuntime) -> Result<(), Fail> {
 #[test]
 fn lists_of_the_small_book(rt: HostRuntime) -> Result<(), Fail> {
     let mut weather = weather()?;
-    let mut book = told(rt.alloc(), &mut weather)?;
-    begins(book.sheet(), &[50, 30, 150, 30])?;
-    begins(book.intervals(), &[0; 64])?;
+    let mut book = told(&rt, rt.alloc(), &mut weather)?;
+    begins(&rt, "sheet", book.sheet(), &[50, 30, 150, 30]);
+    begins(&rt, "intervals", book.intervals(), &[0; 64]);
     serve_table(
+        &rt,
         rt.alloc(),
+        "more intervals",
         &mut book,
         &mut weather,
         &[
@@ -91,7 +97,7 @@ fn lists_of_the_small_book(rt: HostRuntime) -> Result<(), Fail> {
     let mut energies = [0; 64];
     energies[0] = 20;
     energies[63] = 60;
-    begins(book.intervals(), &energies)?;
+    begins(&rt, "intervals", book.intervals(), &energies);
     let mut held = 0usize;
     for place in book.readings() {
         if let Some(reading) = place {
@@ -104,8 +110,18 @@ fn lists_of_the_small_book(rt: HostRuntime) -> Result<(), Fail> {
     }
     assert_eq!(rt; held, 1);
     let lists = book.close();
-    begins(lists.sheet.as_slice(), &[50, 30, 150, 30])?;
-    begins(lists.intervals.as_slice(), &energies)?;
+    begins(
+        &rt,
+        "sheet at the end",
+        lists.sheet.as_slice(),
+        &[50, 30, 150, 30],
+    );
+    begins(
+        &rt,
+        "intervals at the end",
+        lists.intervals.as_slice(),
+        &energies,
+    );
     assert_eq!(rt; lists.readings.len(), 4);
     Ok(())
 }
@@ -193,7 +209,7 @@ fn refused_openings(rt: HostRuntime) -> Result<(), Fail> {
 #[test]
 fn too_few_answers(rt: HostRuntime) -> Result<(), Fail> {
     let mut weather = weather()?;
-    let mut book = told(rt.alloc(), &mut weather)?;
+    let mut book = told(&rt, rt.alloc(), &mut weather)?;
     let mut answers = [Answer::Figure(1), Answer::Figure(2)];
     let calls = [
         gate(20240701, 900, 0),
@@ -206,11 +222,13 @@ fn too_few_answers(rt: HostRuntime) -> Result<(), Fail> {
     );
     assert_eq!(rt; replied(answers[0]), Reply::Figure(1));
     assert_eq!(rt; replied(answers[1]), Reply::Figure(2));
-    begins(book.sheet(), &[50, 30, 150, 30])?;
-    begins(book.intervals(), &[0; 64])?;
+    begins(&rt, "sheet", book.sheet(), &[50, 30, 150, 30]);
+    begins(&rt, "intervals", book.intervals(), &[0; 64]);
     assert_eq!(rt; weather.figure(2, 1), Some(30));
     serve_table(
+        &rt,
         rt.alloc(),
+        "asked last",
         &mut book,
         &mut weather,
         &[(day(20240701), Reply::Day([100, 50, 30, 20, 0, 0]))],
