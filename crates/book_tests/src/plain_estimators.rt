@@ -1,9 +1,9 @@
 // The two plainest estimators that keep the laws of every estimator.
-ghost use Rattle.std.specs.Prelude.{◌&&◌, if◌then◌else◌, Option};
+ghost use Rattle.std.specs.Prelude.{◌&&◌, if◌then◌else◌, Option, refl};
 ghost use Rattle.refusals.specs.Answers.{Answers};
 ghost use Rattle.estimators.specs.Limits.{day_within, greatest_figure, point_within};
 ghost use Rattle.estimators.specs.Meaning.{weather_within};
-ghost use Rattle.std.proofs.Common.{rules};
+ghost use Rattle.book_tests.specs.Laws.{none_bounded, greatest_bounded, greatest_ranged};
 
 use estimators::{Estimator, GREATEST_FIGURE, Weather, count_within, day_within, point_within};
 use refusals::Refusal;
@@ -29,9 +29,9 @@ fn judge_weather(day: u32, count: u32) -> Result<(), Refusal>
 impl Estimator for Silent {
     ghost meaning = { λ _ _ _. Option.None };
 
-    ghost bounded = { Prim.search rules };
+    ghost bounded = { λ _ _ _. none_bounded };
 
-    ghost ranged = { Prim.search rules };
+    ghost ranged = { λ _ _ _ _. refl };
 
     fn figure(&self, _point: u32, _day: u32) -> Option<u64> {
         None
@@ -41,9 +41,9 @@ impl Estimator for Silent {
 impl Weather for Silent {
     ghost under = { λ _ _ _ _. Option.None };
 
-    ghost bounded_under = { Prim.search rules };
+    ghost bounded_under = { λ _ _ _ _. none_bounded };
 
-    ghost ranged_under = { Prim.search rules };
+    ghost ranged_under = { λ _ _ _ _ _. refl };
 
     fn figure_under(&self, _point: u32, _day: u32, _count: u32) -> Option<u64> {
         None
@@ -57,9 +57,9 @@ impl Weather for Silent {
 impl Estimator for Greatest {
     ghost meaning = { λ _ point day. (if point_within point && day_within day then Option.Some greatest_figure else Option.None) };
 
-    ghost bounded = { Prim.search rules };
+    ghost bounded = { λ _ point day. greatest_bounded (point_within point && day_within day) };
 
-    ghost ranged = { Prim.search rules };
+    ghost ranged = { λ _ point day. greatest_ranged (point_within point && day_within day) };
 
     fn figure(&self, point: u32, day: u32) -> Option<u64> {
         if point_within(point) && day_within(day) {
@@ -73,9 +73,9 @@ impl Estimator for Greatest {
 impl Weather for Greatest {
     ghost under = { λ _ count point day. (if point_within point && weather_within day count then Option.Some greatest_figure else Option.None) };
 
-    ghost bounded_under = { Prim.search rules };
+    ghost bounded_under = { λ _ count point day. greatest_bounded (point_within point && weather_within day count) };
 
-    ghost ranged_under = { Prim.search rules };
+    ghost ranged_under = { λ _ count point day. greatest_ranged (point_within point && weather_within day count) };
 
     fn figure_under(&self, point: u32, day: u32, count: u32) -> Option<u64> {
         if count_within(count) {
