@@ -13,8 +13,6 @@ four_points = record {
   points = 4;
   unaccounted = 0;
   places = 1;
-  sheet_beyond = [];
-  intervals_beyond = [];
   opening = λ p d. cond (p == 1) None (cond (p == 4) (Some 10) (Some 20));
   weather = λ count p d. None;
 }
@@ -37,8 +35,6 @@ two_days = record {
   points = 32;
   unaccounted = 0;
   places = 256;
-  sheet_beyond = [];
-  intervals_beyond = [];
   opening = λ p d. None;
   weather = λ count p d. cond (p == 2) (Some 30) None;
 }

@@ -18,9 +18,6 @@ pub record Setting : Type 0 where
   pub unaccounted : ℕ
   -- the places of the reading list
   pub places : ℕ
-  -- what the sheet and the interval list hold beyond the book's places
-  pub sheet_beyond : List ℕ
-  pub intervals_beyond : List ℕ
   -- the estimator's figures at the opening, and under each degree-day count
   pub opening : Meaning
   pub weather : ℕ → Meaning

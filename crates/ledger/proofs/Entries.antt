@@ -27,7 +27,6 @@ gate_followed {s} {h} {day} {gate} {old} {new} change within long f = record {
       (λ other _ e. eqb-false day d other (sym e)) long in
       rw (change.opening, change.gates) (written ∙ rw (f.gates d) (or_other (eqb day d) gate (gate_of h d)));
   intervals = λ m d. rw (change.opening, change.intervals) (f.intervals m d);
-  beyond = rw change.intervals f.beyond;
   enrolments = λ p. rw (change.opening, change.enrolments) (f.enrolments p);
   readings = λ test. rw change.places (f.readings test);
 }
@@ -62,7 +61,6 @@ interval_followed {s} {h} {day} {meter} {energy} {old} {new} change within low h
       let written = put_read (vec_items old.intervals) 0 energy (ltb d old.opening.days && between 1 meters m) (eqb meter m && eqb day d) (day * 32 + (meter - 1)) (d * 32 + (m - 1))
       (same_cell day meter d m old.opening.days within low high) (other_cell day meter d m old.opening.days low high) long in
       rw (change.opening, change.intervals) (written ∙ rw (f.intervals m d) (or_value (eqb meter m && eqb day d) energy 0 (latest (interval_in m d) h)));
-  beyond = rw (change.intervals, drop-set-lt (s.days * meters) (vec_items old.intervals) (day * 32 + (meter - 1)) energy (omega (arith, f.days))) f.beyond;
   enrolments = λ p. rw (change.opening, change.enrolments) (f.enrolments p);
   readings = λ test. rw change.places (f.readings test);
 }
@@ -86,7 +84,6 @@ enrolment_followed {s} {h} {point} {enrolment} {old} {new} change low high long 
   room = rw change.places f.room;
   gates = λ d. rw (change.opening, change.gates) (f.gates d);
   intervals = λ m d. rw (change.opening, change.intervals) (f.intervals m d);
-  beyond = rw change.intervals f.beyond;
   enrolments = λ p.
       let written = put_read old.enrolments None (Some enrolment) (between 1 old.opening.points p) (eqb point p) (point - 1) (p - 1)
       (same_row point p old.opening.points low high) (other_row point p old.opening.points low) long in
@@ -104,7 +101,6 @@ count_followed day count f = record {
   room = f.room;
   gates = f.gates;
   intervals = f.intervals;
-  beyond = f.beyond;
   enrolments = f.enrolments;
   readings = f.readings;
 }
@@ -123,7 +119,6 @@ reading_followed {s} {h} {r} {old} {new} change f = record {
   room = change.room ∙ f.room;
   gates = λ d. rw (change.opening, change.gates) (f.gates d);
   intervals = λ m d. rw (change.opening, change.intervals) (f.intervals m d);
-  beyond = rw change.intervals f.beyond;
   enrolments = λ p. rw (change.opening, change.enrolments) (f.enrolments p);
   readings = λ test.
       change.places test ∙ ap (λ n. n + cond (test r) 1 0) (f.readings (λ x. not (replaces r x) && test x)) ∙ held_more r test (held_of h);

@@ -4,3 +4,4 @@ pub mod Judged
 pub mod Loads
 pub mod Opened
 pub mod Asked
+pub mod Beyond

@@ -102,8 +102,8 @@ in_row days d m inside =
     omega arith
 
 -- a ledger of empty tables follows the empty history
-pub told_nothing : (first days points unaccounted : ℕ) (l : Ledger) (xs : List ℕ) (ps : List (Option Reading)) (n : ℕ) (sheet_beyond : List ℕ) (m : Meaning) (w : ℕ → Meaning) → l.opening ≡ record { first = day_number_of first; days = days; points = points; unaccounted = unaccounted } → l.gates ≡ replicate 400 None → days * 32 ≤ length xs → vec_items l.intervals ≡ map zero_of (take (days * 32) xs) ++ drop (days * 32) xs → l.enrolments ≡ replicate 256 None → vec_items l.places ≡ map (λ x. None) ps → vec_len l.places ≡ n → Follows (setting_of first days points unaccounted n sheet_beyond (drop (days * 32) xs) m w) [] l
-told_nothing first days points unaccounted l xs ps n sheet_beyond m w opening gates long intervals enrolments places room = record {
+pub told_nothing : (first days points unaccounted : ℕ) (l : Ledger) (xs : List ℕ) (ps : List (Option Reading)) (n : ℕ) (m : Meaning) (w : ℕ → Meaning) → l.opening ≡ record { first = day_number_of first; days = days; points = points; unaccounted = unaccounted } → l.gates ≡ replicate 400 None → days * 32 ≤ length xs → vec_items l.intervals ≡ map zero_of (take (days * 32) xs) ++ drop (days * 32) xs → l.enrolments ≡ replicate 256 None → vec_items l.places ≡ map (λ x. None) ps → vec_len l.places ≡ n → Follows (setting_of first days points unaccounted n m w) [] l
+told_nothing first days points unaccounted l xs ps n m w opening gates long intervals enrolments places room = record {
   first = ap (λ o. o.first) opening;
   days = ap (λ o. o.days) opening;
   points = ap (λ o. o.points) opening;
@@ -113,7 +113,6 @@ told_nothing first days points unaccounted l xs ps n sheet_beyond m w opening ga
   intervals = λ meter d.
       cond_both (ltb d l.opening.days && between 1 meters meter) (get_or (vec_items l.intervals) (d * 32 + (meter - 1)) 0) 0 (λ (x : ℕ). x ≡ 0)
       (λ inside. cleared_read (days * 32) xs (vec_items l.intervals) long intervals (d * 32 + (meter - 1)) (in_row days d meter (rw (ap (λ o. o.days) opening) at inside))) (λ _. refl);
-  beyond = cleared_rest (days * 32) xs (vec_items l.intervals) long intervals;
   enrolments = λ p. rw (enrolments, none_read None 256 (p - 1)) (cond_same (between 1 l.opening.points p) None);
   readings = λ test. rw places (none_counted test ps);
 }

@@ -1,3 +1,4 @@
+pub mod Beyond
 pub mod Changes
 pub mod Days
 pub mod Judging

@@ -41,24 +41,22 @@ Judges first days points unaccounted interval_places reading_places (Ok o) =
 Judges first days points unaccounted interval_places reading_places (Err e) = opening_refusal first days points unaccounted interval_places reading_places ≡ Some (number_of e)
 
 -- the setting of a book that opens so, beside an estimator
-abbrev pub setting_of : ℕ → ℕ → ℕ → ℕ → ℕ → List ℕ → List ℕ → Meaning → (ℕ → Meaning) → Setting
-setting_of first days points unaccounted reading_places sheet_beyond intervals_beyond opening weather = record {
+abbrev pub setting_of : ℕ → ℕ → ℕ → ℕ → ℕ → Meaning → (ℕ → Meaning) → Setting
+setting_of first days points unaccounted reading_places opening weather = record {
   first = day_number_of first;
   days = days;
   points = points;
   unaccounted = unaccounted;
   places = reading_places;
-  sheet_beyond = sheet_beyond;
-  intervals_beyond = intervals_beyond;
   opening = opening;
   weather = weather;
 }
 
--- what opens follows the empty history, whatever the estimator means and a sheet beside it holds, and leaves the interval places beyond its days as they were
+-- what opens follows the empty history, whatever the estimator means, and leaves the interval places beyond its days as they were
 abbrev pub OpenedAs : ℕ → ℕ → ℕ → ℕ → Vec ℕ Global → Vec (Option Reading) Global → Result Ledger Unopened → Type 0
 OpenedAs first days points unaccounted intervals places (Ok l) =
     (opening_refusal first days points unaccounted (vec_len intervals) (vec_len places) ≡ None)
-    × ((sheet_beyond : List ℕ) (m : Meaning) (u : ℕ → Meaning) → Follows (setting_of first days points unaccounted (vec_len places) sheet_beyond (drop (days * meters) (vec_items intervals)) m u) [] l)
+    × ((m : Meaning) (u : ℕ → Meaning) → Follows (setting_of first days points unaccounted (vec_len places) m u) [] l)
     × (drop (days * meters) (vec_items l.intervals) ≡ drop (days * meters) (vec_items intervals))
 OpenedAs first days points unaccounted intervals places (Err e) =
     opening_refusal first days points unaccounted (vec_len intervals) (vec_len places) ≡ Some (number_of e.refusal)

@@ -31,7 +31,7 @@ abbrev pub enrolment_at : Ledger → ℕ → Option Enrolment
 enrolment_at l p = cond (between 1 l.opening.points p) (slice_index_or l.enrolments (p - 1) None) None
 
 -- the ledger says what the history has told since the opening, and its places hold the held readings, each in one place:
--- whatever is asked of readings, as many places as held readings pass; interval places beyond the book's days stay as they were at the opening
+-- whatever is asked of readings, as many places as held readings pass
 pub record Follows (s : Setting) (h : History) (l : Ledger) : Type 0 where
   pub first : l.opening.first ≡ s.first
   pub days : l.opening.days ≡ s.days
@@ -40,7 +40,6 @@ pub record Follows (s : Setting) (h : History) (l : Ledger) : Type 0 where
   pub room : vec_len l.places ≡ s.places
   pub gates : (d : ℕ) → gate_at l d ≡ gate_of h d
   pub intervals : (m d : ℕ) → interval_at l m d ≡ interval_of h m d
-  pub beyond : drop (s.days * meters) (vec_items l.intervals) ≡ s.intervals_beyond
   pub enrolments : (p : ℕ) → enrolment_at l p ≡ enrolment_of h p
   pub readings : (test : Reading → Bool) → count_by (placed test) (vec_items l.places) ≡ count_by test (held_of h)
 

@@ -3,6 +3,7 @@ ghost use Rattle.histories.specs.Calls.{between};
 ghost use Rattle.histories.specs.History.{History, Setting, enrolment_of};
 ghost use Rattle.histories.specs.declared.call.Call.TheVariants.{Enrol};
 ghost use Rattle.histories.specs.declared.entry.Entry.TheVariants.{Enrolled};
+ghost use Rattle.ledger.specs.Beyond.{beyond_days};
 ghost use Rattle.ledger.specs.Told.{Answered, Follows, Judged, enrolment_at};
 ghost use Rattle.ledger.specs.Changes.{WithEnrolment};
 
@@ -60,6 +61,7 @@ impl Ledger {
     pub fn enrol(&mut self, point: u32, retailer: u32, start: u32) -> Result<Entry, Refusal>
         ensures refused { OnErr result (self.new ≡ self.old) }
         ensures law { Answered (Enrol point retailer start) self.old result self.new }
+        ensures beyond { beyond_days self.new ≡ beyond_days self.old }
     {
         let enrolment = self.judge_enrolment(point, retailer, start)?;
         self.put_enrolment(point, enrolment);

@@ -2,6 +2,7 @@ ghost use Rattle.std.specs.Prelude.{◌≡◌, ℕ, ◌<◌, T, length, IfOk, Op
 ghost use Rattle.histories.specs.History.{History, Setting};
 ghost use Rattle.histories.specs.declared.call.Call.TheVariants.{EnterGate};
 ghost use Rattle.histories.specs.declared.entry.Entry.TheVariants.{GateEntered};
+ghost use Rattle.ledger.specs.Beyond.{beyond_days};
 ghost use Rattle.ledger.specs.Limits.{gate_within};
 ghost use Rattle.ledger.specs.Told.{Answered, Follows, Judged};
 ghost use Rattle.ledger.specs.Changes.{WithGate};
@@ -51,6 +52,7 @@ impl Ledger {
     ) -> Result<Entry, Refusal>
         ensures refused { OnErr result (self.new ≡ self.old) }
         ensures law { Answered (EnterGate date energy_in energy_out) self.old result self.new }
+        ensures beyond { beyond_days self.new ≡ beyond_days self.old }
     {
         let gate = GateDay {
             energy_in,

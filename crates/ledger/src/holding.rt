@@ -3,6 +3,7 @@ ghost use Rattle.histories.specs.History.{History, Setting};
 ghost use Rattle.histories.specs.Readings as held;
 ghost use Rattle.histories.specs.declared.call.Call.TheVariants.{EnterReading};
 ghost use Rattle.histories.specs.declared.entry.Entry.TheVariants.{ReadingTaken};
+ghost use Rattle.ledger.specs.Beyond.{beyond_days};
 ghost use Rattle.ledger.specs.Changes.{WithReading};
 ghost use Rattle.ledger.specs.Judging.{NumbersJudged};
 ghost use Rattle.reading_places.specs.Places.{placed};
@@ -88,6 +89,7 @@ impl Ledger {
     ) -> Result<Entry, Refusal>
         ensures refused { OnErr result (self.new ≡ self.old) }
         ensures law { Answered (EnterReading point start end energy reading_type) self.old result self.new }
+        ensures beyond { beyond_days self.new ≡ beyond_days self.old }
     {
         let reading = self.judge_reading(point, start, end, energy, reading_type)?;
         self.put_reading(reading);

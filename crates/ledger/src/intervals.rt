@@ -2,6 +2,7 @@ ghost use Rattle.std.specs.Prelude.{◌≡◌, ℕ, ◌+◌, ◌-◌, ◌*◌, �
 ghost use Rattle.histories.specs.History.{History, Setting};
 ghost use Rattle.histories.specs.declared.call.Call.TheVariants.{EnterInterval};
 ghost use Rattle.histories.specs.declared.entry.Entry.TheVariants.{IntervalEntered};
+ghost use Rattle.ledger.specs.Beyond.{beyond_days};
 ghost use Rattle.ledger.specs.Limits.{interval_within};
 ghost use Rattle.ledger.specs.Told.{Answered, Follows, Judged};
 ghost use Rattle.ledger.specs.Changes.{WithInterval};
@@ -48,6 +49,7 @@ impl Ledger {
     pub fn enter_interval(&mut self, date: u32, meter: u32, energy: u64) -> Result<Entry, Refusal>
         ensures refused { OnErr result (self.new ≡ self.old) }
         ensures law { Answered (EnterInterval date meter energy) self.old result self.new }
+        ensures beyond { beyond_days self.new ≡ beyond_days self.old }
     {
         let day = self.judge_interval(date, meter, energy)?;
         self.put_interval(day, meter, energy);

@@ -14,8 +14,6 @@ book = record {
   points = 32;
   unaccounted = 0;
   places = 1;
-  sheet_beyond = [];
-  intervals_beyond = [];
   opening = λ p d. None;
   weather = λ count p d. None;
 }

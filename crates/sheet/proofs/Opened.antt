@@ -14,10 +14,10 @@ none_read nothing (suc n) zero = refl
 none_read nothing (suc n) (suc k) = none_read nothing n k
 
 -- a sheet of cleared figures stands as the empty history leaves it
-pub stands_open : (s : Setting) (b : Sheet) (xs : List ℕ) → b.days ≡ s.days → b.points ≡ s.points → s.days * s.points ≤ length xs
+pub stands_open : (s : Setting) (rest : List ℕ) (b : Sheet) (xs : List ℕ) → b.days ≡ s.days → b.points ≡ s.points → s.days * s.points ≤ length xs
     → vec_items b.figures ≡ map zero_of (take (s.days * s.points) xs) ++ drop (s.days * s.points) xs
-    → b.loads ≡ replicate 400 None → drop (s.days * s.points) xs ≡ s.sheet_beyond → Stands s [] b
-stands_open s b xs days points long cleared loads beyond = record {
+    → b.loads ≡ replicate 400 None → drop (s.days * s.points) xs ≡ rest → Stands s rest [] b
+stands_open s rest b xs days points long cleared loads beyond = record {
   days = days;
   points = points;
   loads = λ d within. ap (λ l. get_or l d None) loads ∙ none_read None 400 d;

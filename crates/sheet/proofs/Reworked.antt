@@ -1,5 +1,5 @@
 -- A sheet that is worked out anew stands as the longer history leaves it. Assumes nothing.
-use Rattle.std.proofs.Common.{◌≡◌, ℕ, ◌+◌, ◌-◌, ◌*◌, ◌<◌, ◌≤◌, max, true, false, cond, ◌&&◌, eqb, ltb, leb, ◌∷◌, length, get_or, drop, set, is_some, Some, None, vec_items, Option, Vec, unwrap_or, sym, refl, ap, ◌∙◌, subst, inl, inr, ⊎_elim, arith}
+use Rattle.std.proofs.Common.{◌≡◌, ℕ, ◌+◌, ◌-◌, ◌*◌, ◌<◌, ◌≤◌, max, true, false, cond, ◌&&◌, eqb, ltb, leb, ◌∷◌, length, get_or, drop, set, is_some, Some, None, vec_items, Option, Vec, unwrap_or, sym, refl, ap, ◌∙◌, subst, inl, inr, ⊎_elim, arith, List}
 use Rattle.std.proofs.lemmas.List.{get_or-set_other, get_or-set_same}
 use Rattle.std.proofs.lemmas.Bool.{and_from, and_left, and_parts, and_right, cases_Bool, cases_eq, cases_lt, le-leb, le-ltb, lt-leb, lt-ltb, ltb-true}
 use Rattle.std.specs.Option.{option_map, option_or}
@@ -43,8 +43,8 @@ pub record Reworking (s : Setting) (h new : History) (from to : ℕ) (old b : Sh
   pub points : b.points ≡ old.points
   pub beyond : drop (old.days * old.points) (vec_items b.figures) ≡ drop (old.days * old.points) (vec_items old.figures)
 
-pub reworked : {s : Setting} {h new : History} {from to : ℕ} {old b : Sheet} → Reworking s h new from to old b → Stands s h old → Stands s new b
-reworked {s} {h} {new} {from} {to} {old} {b} r stood = record {
+pub reworked : {s : Setting} {rest : List ℕ} {h new : History} {from to : ℕ} {old b : Sheet} → Reworking s h new from to old b → Stands s rest h old → Stands s rest new b
+reworked {s} {rest} {h} {new} {from} {to} {old} {b} r stood = record {
   days = r.days ∙ stood.days;
   points = r.points ∙ stood.points;
   loads = r.loads;
@@ -52,7 +52,7 @@ reworked {s} {h} {new} {from} {to} {old} {b} r stood = record {
   shown = λ d within.
       ⊎_elim (λ early. kept d within (inl early))
       (λ late. ⊎_elim (λ before. r.inside d late before) (λ after. kept d within (inr after)) (cases_lt d to)) (cases_lt d from);
-  beyond = subst (λ n. drop n (vec_items b.figures) ≡ s.sheet_beyond) places (r.beyond ∙ subst (λ n. drop n (vec_items old.figures) ≡ s.sheet_beyond) (sym places) stood.beyond);
+  beyond = subst (λ n. drop n (vec_items b.figures) ≡ rest) places (r.beyond ∙ subst (λ n. drop n (vec_items old.figures) ≡ rest) (sym places) stood.beyond);
 }
   where
     places : old.days * old.points ≡ s.days * s.points
@@ -80,7 +80,7 @@ covered_day s h lawful p d r cover =
     omega arith
 
 -- a sheet that shows a day shows its supplied figures
-pub supplied_shown_before : (s : Setting) (h : History) (b : Sheet) → Stands s h b → (d : ℕ) → d < s.days → ShowsSupplied s h b d
+pub supplied_shown_before : (s : Setting) {rest : List ℕ} (h : History) (b : Sheet) → Stands s rest h b → (d : ℕ) → d < s.days → ShowsSupplied s h b d
 supplied_shown_before s h b stood d within p x low high is = stood.shown d within p low high ∙ ap (λ o. unwrap_or o (get_or (generated s h d) (p - 1) 0)) is
 
 -- a sheet that only learnt something shows what it showed
@@ -104,7 +104,7 @@ module _ {old new : Sheet} (same : SameFigures old new) where
 
 -- A changed load.
 module _ (s : Setting) (h new : History) (g : ℕ) (l : Ledger) (moved : LoadMoved s h new g) (follows : Follows s new l)
-    (b0 b1 : Sheet) (stood : Stands s h b0) (learned : WithLoad g (load s new g) b0 b1) (inside_loads : g < length b0.loads) where
+    {rest : List ℕ} (b0 b1 : Sheet) (stood : Stands s rest h b0) (learned : WithLoad g (load s new g) b0 b1) (inside_loads : g < length b0.loads) where
   learned_same : SameFigures b0 b1
   learned_same = record { days = learned.days; points = learned.points; figures = learned.figures }
 
@@ -151,7 +151,7 @@ module _ (s : Setting) (h new : History) (g : ℕ) (l : Ledger) (moved : LoadMov
         absurd (⊎_elim (λ before. omega (arith, between.0)) (λ after. omega (arith, between.1)) outside))
         (λ (not_joined : joined h d g ≡ false). not_joined) (cases_Bool (joined h d g))
 
-    pub load_reworked : (b3 : Sheet) → OnlyDays from to b2 b3 → ((d : ℕ) → from ≤ d → d < to → ShowsDay s new b3 d) → Stands s new b3
+    pub load_reworked : (b3 : Sheet) → OnlyDays from to b2 b3 → ((d : ℕ) → from ≤ d → d < to → ShowsDay s new b3 d) → Stands s rest new b3
     load_reworked b3 settled_only settled =
         let only = only_again shared_only settled_only in
         let told = told_only only told_load in
@@ -168,7 +168,7 @@ module _ (s : Setting) (h new : History) (g : ℕ) (l : Ledger) (moved : LoadMov
 
 -- A new reading.
 module _ (s : Setting) (h : History) (r : Reading) (l : Ledger) (lawful : Lawful s (ReadingTaken r ∷ h)) (follows : Follows s (ReadingTaken r ∷ h) l)
-    (b0 b1 : Sheet) (stood : Stands s h b0) (learned : WithCover r.point (max (get_or b0.covered_to (r.point - 1) 0) r.end) b0 b1)
+    {rest : List ℕ} (b0 b1 : Sheet) (stood : Stands s rest h b0) (learned : WithCover r.point (max (get_or b0.covered_to (r.point - 1) 0) r.end) b0 b1)
     (inside_table : r.point - 1 < length b0.covered_to) where
   cover_same : SameFigures b0 b1
   cover_same = record { days = learned.days; points = learned.points; figures = learned.figures }
@@ -201,7 +201,7 @@ module _ (s : Setting) (h : History) (r : Reading) (l : Ledger) (lawful : Lawful
       go (Some old) e same =
           stood.shown d (covered_day s h lawful.0 p d old e) p low high ∙ supplied_shows s h p d old e ∙ supplied_by s (ReadingTaken r ∷ h) p d x old (same ∙ e) is
 
-  pub reading_reworked : (b3 : Sheet) → OnlyDays r.start r.end b1 b3 → r.end ≤ b1.days → ((d : ℕ) → r.start ≤ d → d < r.end → ShowsDay s (ReadingTaken r ∷ h) b3 d) → Stands s (ReadingTaken r ∷ h) b3
+  pub reading_reworked : (b3 : Sheet) → OnlyDays r.start r.end b1 b3 → r.end ≤ b1.days → ((d : ℕ) → r.start ≤ d → d < r.end → ShowsDay s (ReadingTaken r ∷ h) b3 d) → Stands s rest (ReadingTaken r ∷ h) b3
   reading_reworked b3 only last settled =
       let told = told_only only told_reading in
       reworked (record {
@@ -221,7 +221,7 @@ module _ (s : Setting) (h : History) (r : Reading) (l : Ledger) (lawful : Lawful
 
 -- An enrolment.
 module _ (s : Setting) (h : History) (q : ℕ) (e : Enrolment) (l : Ledger) (lawful : Lawful s (Enrolled q e ∷ h)) (follows : Follows s (Enrolled q e ∷ h) l)
-    (b0 b1 : Sheet) (stood : Stands s h b0) (learned : WithCover q e.start b0 b1) (inside_table : q - 1 < length b0.covered_to) where
+    {rest : List ℕ} (b0 b1 : Sheet) (stood : Stands s rest h b0) (learned : WithCover q e.start b0 b1) (inside_table : q - 1 < length b0.covered_to) where
   start_same : SameFigures b0 b1
   start_same = record { days = learned.days; points = learned.points; figures = learned.figures }
 
@@ -240,7 +240,7 @@ module _ (s : Setting) (h : History) (q : ℕ) (e : Enrolment) (l : Ledger) (law
   pub supplied_after_enrolment : (d : ℕ) → d < s.days → ShowsSupplied s (Enrolled q e ∷ h) b1 d
   supplied_after_enrolment d within p x low high is = cell_same start_same p d ∙ supplied_shown_before s h b0 stood d within p x low high is
 
-  pub enrolment_reworked : (b3 : Sheet) → OnlyDays e.start b1.days b1 b3 → ((d : ℕ) → e.start ≤ d → d < b1.days → ShowsDay s (Enrolled q e ∷ h) b3 d) → Stands s (Enrolled q e ∷ h) b3
+  pub enrolment_reworked : (b3 : Sheet) → OnlyDays e.start b1.days b1 b3 → ((d : ℕ) → e.start ≤ d → d < b1.days → ShowsDay s (Enrolled q e ∷ h) b3 d) → Stands s rest (Enrolled q e ∷ h) b3
   enrolment_reworked b3 only settled =
       let told = told_only only told_enrolment in
       reworked (record {
@@ -256,7 +256,7 @@ module _ (s : Setting) (h : History) (q : ℕ) (e : Enrolment) (l : Ledger) (law
 
 -- A degree-day count.
 module _ (s : Setting) (h : History) (g count : ℕ) (l : Ledger) (lawful : Lawful s (DegreeDaysEntered g count ∷ h)) (follows : Follows s (DegreeDaysEntered g count ∷ h) l)
-    (b0 : Sheet) (stood : Stands s h b0) where
+    {rest : List ℕ} (b0 : Sheet) (stood : Stands s rest h b0) where
   pub told_count : Told s (DegreeDaysEntered g count ∷ h) l b0
   told_count = record {
     lawful = lawful;
@@ -270,7 +270,7 @@ module _ (s : Setting) (h : History) (g count : ℕ) (l : Ledger) (lawful : Lawf
   pub supplied_after_count : (d : ℕ) → d < s.days → ShowsSupplied s (DegreeDaysEntered g count ∷ h) b0 d
   supplied_after_count d within p x low high is = supplied_shown_before s h b0 stood d within p x low high is
 
-  pub count_reworked : (b1 : Sheet) → OnlyDays g (g + 1) b0 b1 → ShowsDay s (DegreeDaysEntered g count ∷ h) b1 g → Stands s (DegreeDaysEntered g count ∷ h) b1
+  pub count_reworked : (b1 : Sheet) → OnlyDays g (g + 1) b0 b1 → ShowsDay s (DegreeDaysEntered g count ∷ h) b1 g → Stands s rest (DegreeDaysEntered g count ∷ h) b1
   count_reworked b1 only settled =
       let told = told_only only told_count in
       let within = (entry_in s h (DegreeDaysEntered g count) lawful).0 in
@@ -286,7 +286,7 @@ module _ (s : Setting) (h : History) (g count : ℕ) (l : Ledger) (lawful : Lawf
       }) stood
 
 -- a reading that a book has just accepted lies in a sheet of its days and points
-pub reading_lies : (s : Setting) (h : History) (r : Reading) → Lawful s (ReadingTaken r ∷ h) → (b : Sheet) → Stands s h b → lies_in b r ≡ true
+pub reading_lies : (s : Setting) {rest : List ℕ} (h : History) (r : Reading) → Lawful s (ReadingTaken r ∷ h) → (b : Sheet) → Stands s rest h b → lies_in b r ≡ true
 reading_lies s h r lawful b stood =
     let within = held_within s (ReadingTaken r ∷ h) lawful r (inl refl) in
     and_from _ _ (le-leb 1 r.point within.0)

@@ -1,5 +1,5 @@
 -- What a sheet knows of a history, and what it shows of it.
-use Rattle.std.specs.Prelude.{◌≡◌, ℕ, ◌+◌, ◌*◌, ◌<◌, ◌≤◌, Bool, cond, not, drop, is_some, Some, None, vec_items, slice_index_or}
+use Rattle.std.specs.Prelude.{◌≡◌, ℕ, ◌+◌, ◌*◌, ◌<◌, ◌≤◌, Bool, cond, not, List, drop, is_some, Some, None, vec_items, slice_index_or}
 use Rattle.estimators.specs.Meaning.{Meaning}
 use Rattle.histories.specs.Calls.{Lawful}
 use Rattle.histories.specs.Figures.{active, belongs, estimate, figure, load, supplied}
@@ -51,11 +51,11 @@ abbrev pub Estimates : Setting → History → Meaning → Type 0
 Estimates s h m = (d : ℕ) → EstimatesOn s h d m
 
 -- a sheet stands as a history leaves it: it knows its loads and what is covered, and shows the figures of each day;
--- what lies beyond the book's places is as it was at the opening
-pub record Stands (s : Setting) (h : History) (b : Sheet) : Type 0 where
+-- the rest of its list, beyond the book's places, is as it was at the opening
+pub record Stands (s : Setting) (rest : List ℕ) (h : History) (b : Sheet) : Type 0 where
   pub days : b.days ≡ s.days
   pub points : b.points ≡ s.points
   pub loads : (d : ℕ) → d < s.days → slice_index_or b.loads d None ≡ load s h d
   pub covered : CoveredTo h s.points b.covered_to
   pub shown : (d : ℕ) → d < s.days → ShowsDay s h b d
-  pub beyond : drop (s.days * s.points) (vec_items b.figures) ≡ s.sheet_beyond
+  pub beyond : drop (s.days * s.points) (vec_items b.figures) ≡ rest

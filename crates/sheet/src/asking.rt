@@ -1,4 +1,4 @@
-ghost use Rattle.std.specs.Prelude.{◌≡◌, ◌<◌, ◌≤◌, not, ◌&&◌, is_some, if◌then◌else◌};
+ghost use Rattle.std.specs.Prelude.{◌≡◌, ℕ, ◌<◌, ◌≤◌, not, ◌&&◌, List, is_some, if◌then◌else◌};
 ghost use Rattle.histories.specs.Figures as law;
 ghost use Rattle.histories.specs.History.{History, Setting};
 ghost use Rattle.sheet.specs.Asking.{Limited, day_account, in_sheet};
@@ -59,7 +59,7 @@ impl Sheet {
         estimator: &E,
         day: u32,
     ) -> Option<DayFigures>
-        ensures { (s : Setting) (h : History) → Told s h ledger.now self.now → Stands s h self.now → Limited s → EstimatesOn s h day (E.Estimator.meaning estimator.now) → day < s.days → result ≡ day_account s h day }
+        ensures { (s : Setting) (rest : List ℕ) (h : History) → Told s h ledger.now self.now → Stands s rest h self.now → Limited s → EstimatesOn s h day (E.Estimator.meaning estimator.now) → day < s.days → result ≡ day_account s h day }
     {
         if day >= self.days {
             return None;
@@ -73,7 +73,7 @@ impl Sheet {
 
     // What the figures of a retailer's points on a day come to; 0 outside the sheet.
     pub fn retailer_sum(&self, ledger: &Ledger, retailer: u32, day: u32) -> u64
-        ensures { (s : Setting) (h : History) → Told s h ledger.now self.now → Stands s h self.now → Limited s → day < s.days → result ≡ law.retailer_sum s h retailer day }
+        ensures { (s : Setting) (rest : List ℕ) (h : History) → Told s h ledger.now self.now → Stands s rest h self.now → Limited s → day < s.days → result ≡ law.retailer_sum s h retailer day }
     {
         if day >= self.days {
             return 0;

@@ -1,4 +1,4 @@
-ghost use Rattle.std.specs.Prelude.{ℕ, ◌<◌, ◌∷◌};
+ghost use Rattle.std.specs.Prelude.{ℕ, ◌<◌, List, ◌∷◌};
 ghost use Rattle.histories.specs.Calls.{Lawful};
 ghost use Rattle.histories.specs.History.{History, Setting};
 ghost use Rattle.histories.specs.declared.entry.Entry.TheVariants.{DegreeDaysEntered, Enrolled, ReadingTaken};
@@ -14,7 +14,7 @@ use ledger::Ledger;
 impl Sheet {
     // Follows a new gate day or interval energy: the readings over its day are shared anew, and each day that they join is settled once.
     pub fn reload<E: Estimator>(&mut self, ledger: &Ledger, estimator: &E, day: u32)
-        ensures { (s : Setting) (h new : History) → LoadMoved s h new day → Follows s new ledger.now → Estimates s new (E.Estimator.meaning estimator.now) → day < s.days → Stands s h self.old → Stands s new self.new }
+        ensures { (s : Setting) (rest : List ℕ) (h new : History) → LoadMoved s h new day → Follows s new ledger.now → Estimates s new (E.Estimator.meaning estimator.now) → day < s.days → Stands s rest h self.old → Stands s rest new self.new }
     {
         if day >= self.days {
             return;
@@ -26,7 +26,7 @@ impl Sheet {
 
     // Follows a new reading: its days show its shares, and are settled.
     pub fn take_reading<E: Estimator>(&mut self, ledger: &Ledger, estimator: &E, reading: &Reading)
-        ensures { (s : Setting) (h : History) → Lawful s (ReadingTaken reading.now ∷ h) → Follows s (ReadingTaken reading.now ∷ h) ledger.now → Estimates s (ReadingTaken reading.now ∷ h) (E.Estimator.meaning estimator.now) → Stands s h self.old → Stands s (ReadingTaken reading.now ∷ h) self.new }
+        ensures { (s : Setting) (rest : List ℕ) (h : History) → Lawful s (ReadingTaken reading.now ∷ h) → Follows s (ReadingTaken reading.now ∷ h) ledger.now → Estimates s (ReadingTaken reading.now ∷ h) (E.Estimator.meaning estimator.now) → Stands s rest h self.old → Stands s rest (ReadingTaken reading.now ∷ h) self.new }
     {
         if !self.holds(reading) {
             return;
@@ -44,7 +44,7 @@ impl Sheet {
         point: u32,
         enrolment: Enrolment,
     )
-        ensures { (s : Setting) (h : History) → Lawful s (Enrolled point enrolment ∷ h) → Follows s (Enrolled point enrolment ∷ h) ledger.now → Estimates s (Enrolled point enrolment ∷ h) (E.Estimator.meaning estimator.now) → Stands s h self.old → Stands s (Enrolled point enrolment ∷ h) self.new }
+        ensures { (s : Setting) (rest : List ℕ) (h : History) → Lawful s (Enrolled point enrolment ∷ h) → Follows s (Enrolled point enrolment ∷ h) ledger.now → Estimates s (Enrolled point enrolment ∷ h) (E.Estimator.meaning estimator.now) → Stands s rest h self.old → Stands s rest (Enrolled point enrolment ∷ h) self.new }
     {
         if point < 1 || point > self.points || enrolment.start >= self.days {
             return;
@@ -56,7 +56,7 @@ impl Sheet {
 
     // Follows a degree-day count that the estimator has taken: its day is settled.
     pub fn take_count<E: Estimator>(&mut self, ledger: &Ledger, estimator: &E, day: u32)
-        ensures { (s : Setting) (h : History) (count : ℕ) → Lawful s (DegreeDaysEntered day count ∷ h) → Follows s (DegreeDaysEntered day count ∷ h) ledger.now → Estimates s (DegreeDaysEntered day count ∷ h) (E.Estimator.meaning estimator.now) → Stands s h self.old → Stands s (DegreeDaysEntered day count ∷ h) self.new }
+        ensures { (s : Setting) (rest : List ℕ) (h : History) (count : ℕ) → Lawful s (DegreeDaysEntered day count ∷ h) → Follows s (DegreeDaysEntered day count ∷ h) ledger.now → Estimates s (DegreeDaysEntered day count ∷ h) (E.Estimator.meaning estimator.now) → Stands s rest h self.old → Stands s rest (DegreeDaysEntered day count ∷ h) self.new }
     {
         self.settle_day(ledger, estimator, day);
     }

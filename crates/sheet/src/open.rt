@@ -22,7 +22,7 @@ impl Sheet {
     // it is too short, or the sheet would be too large.
     pub fn open(days: u32, points: u32, figures: Vec<u64>) -> Result<Sheet, Vec<u64>>
         ensures answer { is_ok result ≡ opens days points (vec_len figures) }
-        ensures stands { MatchResult result (λ b. (s : Setting) → s.days ≡ days → s.points ≡ points → s.sheet_beyond ≡ drop (days * points) figures.items → Stands s [] b) (λ list. list ≡ figures) }
+        ensures stands { MatchResult result (λ b. (s : Setting) → s.days ≡ days → s.points ≡ points → Stands s (drop (days * points) figures.items) [] b) (λ list. list ≡ figures) }
     {
         if days > DAYS || points > POINTS || figures.len() < (days * points) as usize {
             return Err(figures);

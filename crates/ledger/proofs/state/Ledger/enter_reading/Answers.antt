@@ -3,6 +3,7 @@ use Rattle.std.proofs.lemmas.Result.{err_from_is_err_and}
 use Rattle.histories.specs.declared.call.Call.TheVariants.{EnterReading}
 use Rattle.histories.specs.declared.entry.Entry.TheVariants.{ReadingTaken}
 use Rattle.ledger.specs.Told.{Judged}
+use Rattle.ledger.proofs.Beyond.{same_beyond}
 use Rattle.ledger.proofs.Entries.{reading_followed}
 use Rattle.ledger.proofs.state.Ledger.enter_reading.Goals as goal
 
@@ -16,6 +17,7 @@ returns-in_err-reading c =
             (to_z-of_z c.ranges.energy) (c.in_err-reading.ensures.law s h f),
         f,
       );
+      beyond = refl;
     }
 
 pub returns : goal.returns
@@ -26,4 +28,5 @@ returns c = record {
         (to_z-of_z c.ranges.energy) (c.in_ok-reading.ensures.law s h f),
     reading_followed c.put_reading.ensures f,
   );
+  beyond = same_beyond c.args.self.now c.put_reading.new.self c.put_reading.ensures.opening c.put_reading.ensures.intervals;
 }

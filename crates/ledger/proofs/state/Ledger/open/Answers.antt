@@ -34,9 +34,9 @@ returns-in-Ok c =
         subst (λ (n : ℕ). opening_refusal c.args.first c.args.days c.args.points c.args.unaccounted n (vec_len c.args.places) ≡ None) c.len.ensures
             (subst (λ (n : ℕ). opening_refusal c.args.first c.args.days c.args.points c.args.unaccounted c.len.result n ≡ None) c.len-2.ensures judged.0
             ),
-        λ beyond m u.
+        λ m u.
             told_nothing c.args.first c.args.days c.args.points c.args.unaccounted c.told_nothing.result (vec_items c.args.intervals) (vec_items c.args.places)
-            (vec_len c.args.places) beyond m u (c.told_nothing.ensures.opening ∙ judged.1) c.told_nothing.ensures.gates long cleared c.told_nothing.ensures.enrolments
+            (vec_len c.args.places) m u (c.told_nothing.ensures.opening ∙ judged.1) c.told_nothing.ensures.gates long cleared c.told_nothing.ensures.enrolments
             (ap (λ (v : Vec (Option Reading) Global). vec_items v) c.told_nothing.ensures.places ∙ c.clear_places.ensures.items)
             (ap (λ (v : Vec (Option Reading) Global). vec_len v) c.told_nothing.ensures.places ∙ c.clear_places.ensures.len),
         cleared_rest (c.args.days * 32) (vec_items c.args.intervals) (vec_items c.told_nothing.result.intervals) long cleared,

@@ -4,7 +4,7 @@ use Rattle.sheet.proofs.Reworked.{supplied_shown_before}
 use Rattle.sheet.proofs.state.Sheet.day_figures.Goals as goal
 
 pub returns : goal.returns
-returns g c = λ s h told stands limited on within.
+returns g c = λ s rest h told stands limited on within.
     let few : s.points ≤ 256 = omega (arith, told.points, c.args.self.now.few_points) in
     account_told s h told.lawful limited few c.args.day c.args.self.now (stands.shown c.args.day within) (supplied_shown_before s h c.args.self.now stands c.args.day within)
     c.in_ok-load.load c.sum_of-supplied.result c.sum_of-generated.result c.missing-missing.result

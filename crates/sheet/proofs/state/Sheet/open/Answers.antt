@@ -7,9 +7,9 @@ use Rattle.sheet.proofs.state.Sheet.open.Goals as goal
 pub returns : goal.returns
 returns c = record {
   answer = sym (and_from _ _ (le-leb c.args.days 400 (omega arith)) (and_from _ _ (le-leb c.args.points 256 (omega arith)) (le-leb (c.args.days * c.args.points) (vec_len c.args.figures) (omega (arith, c.len.ensures)))));
-  stands = λ s days points beyond.
+  stands = λ s days points.
       let places : s.days * s.points ≡ c.args.days * c.args.points = λ i. days i * points i in
-      stands_open s _ (vec_items c.args.figures) (sym days) (sym points) (omega (arith, c.len.ensures, places, c.args.figures.ok.0))
+      stands_open s _ _ (vec_items c.args.figures) (sym days) (sym points) (omega (arith, c.len.ensures, places, c.args.figures.ok.0))
       (c.emptied.ensures.items ∙ ap (λ (n : ℕ). map zero_of (take n (vec_items c.args.figures)) ++ drop n (vec_items c.args.figures)) (sym places)) refl
-      (ap (λ (n : ℕ). drop n (vec_items c.args.figures)) places ∙ sym beyond);
+      (ap (λ (n : ℕ). drop n (vec_items c.args.figures)) places);
 }

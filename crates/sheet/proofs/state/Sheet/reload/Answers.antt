@@ -4,13 +4,13 @@ use Rattle.sheet.proofs.Reworked.{load_reworked, supplied_after_load, told_load}
 use Rattle.sheet.proofs.state.Sheet.reload.Goals as goal
 
 pub returns-then-day-self : goal.returns-then-day-self
-returns-then-day-self g c = λ s h new moved follows on within stood. absurd (omega (arith, stood.days, within, c.if-day-self.true))
+returns-then-day-self g c = λ s rest h new moved follows on within stood. absurd (omega (arith, stood.days, within, c.if-day-self.true))
 
 pub share_over-span-requires : goal.share_over-span-requires
 share_over-span-requires g c = omega (arith, c.learn_load.ensures.days, c.if-day-self.false)
 
 pub returns : goal.returns
-returns g c = λ s h new moved follows on within stood.
+returns g c = λ s rest h new moved follows on within stood.
     let day = c.args.day in
     let ledger = c.args.ledger.now in
     let old = c.args.self.now in

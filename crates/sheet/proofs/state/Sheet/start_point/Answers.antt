@@ -7,7 +7,7 @@ use Rattle.sheet.proofs.state.Sheet.start_point.Goals as goal
 use Rattle.sheet.proofs.state.Sheet.start_point.Goals.{then-point-lt1-via-then-point-lt1, then-point-lt1-via-else-point-lt1+then-point-self, then-point-lt1-via-else-point-lt1+else-point-self+then-enrolment-self}
 
 pub returns-then-point-lt1 : goal.returns-then-point-lt1
-returns-then-point-lt1 g c = λ s h lawful follows on stood.
+returns-then-point-lt1 g c = λ s rest h lawful follows on stood.
     let inside = entry_in s h (Enrolled c.args.point c.args.enrolment) lawful in
     absurd (
     elim c.then-point-lt1.branch [
@@ -18,7 +18,7 @@ returns-then-point-lt1 g c = λ s h lawful follows on stood.
     )
 
 pub returns : goal.returns
-returns g c = λ s h lawful follows on stood.
+returns g c = λ s rest h lawful follows on stood.
     let point = c.args.point in
     let enrolment = c.args.enrolment in
     let ledger = c.args.ledger.now in

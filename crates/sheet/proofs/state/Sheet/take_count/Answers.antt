@@ -4,7 +4,7 @@ use Rattle.sheet.proofs.Reworked.{count_reworked, supplied_after_count, told_cou
 use Rattle.sheet.proofs.state.Sheet.take_count.Goals as goal
 
 pub returns : goal.returns
-returns g c = λ s h count lawful follows on stood.
+returns g c = λ s rest h count lawful follows on stood.
     let day = c.args.day in
     let sheet = c.args.self.now in
     let within = (entry_in s h (DegreeDaysEntered day count) lawful).0 in

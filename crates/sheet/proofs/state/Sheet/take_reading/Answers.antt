@@ -7,11 +7,11 @@ use Rattle.sheet.proofs.Stretches.{only_again}
 use Rattle.sheet.proofs.state.Sheet.take_reading.Goals as goal
 
 pub returns-then-not-holds : goal.returns-then-not-holds
-returns-then-not-holds g c = λ s h lawful follows on stood.
+returns-then-not-holds g c = λ s rest h lawful follows on stood.
     absurd (both_ways _ (sym c.holds.ensures ∙ c.if-not-holds.true) (reading_lies s h c.args.reading.now lawful c.args.self.now stood))
 
 pub returns : goal.returns
-returns g c = λ s h lawful follows on stood.
+returns g c = λ s rest h lawful follows on stood.
     let r = c.args.reading.now in
     let ledger = c.args.ledger.now in
     let old = c.args.self.now in
