@@ -1,5 +1,5 @@
 -- Questions that are not refused. Assumes nothing.
-use Rattle.std.proofs.Common.{◌≡◌, ℕ, ◌<◌, ◌≤◌, true, cond, leb, is_some, Some, None, Option, Result, unwrap_or, ap, ◌∙◌, arith}
+use Rattle.std.proofs.Common.{◌≡◌, ℕ, ◌<◌, ◌≤◌, true, cond, leb, List, is_some, Some, None, Option, Result, unwrap_or, ap, ◌∙◌, arith}
 use Rattle.std.proofs.lemmas.Bool.{and_from, and_parts, false≢true, le-leb, leb-true, lt-ltb, not-false}
 use Rattle.std.specs.Option.{option_map, ok_or}
 use Rattle.histories.specs.Calls.{place, refusal}
@@ -17,7 +17,7 @@ use Rattle.sheet_laws.proofs.Entered.{place_within}
 use Rattle.book.specs.Replies.{day_is, told}
 
 -- the figure of a point and day that may be asked for is shown
-pub figure_shown : (s : Setting) (h : History) (b : Sheet) (p date : ℕ) → Stands s h b → refusal s h (AskFigure p date) ≡ None → cond (in_sheet b p (place s date)) (cell b p (place s date)) 0 ≡ figure s h p (place s date)
+pub figure_shown : (s : Setting) {rest : List ℕ} (h : History) (b : Sheet) (p date : ℕ) → Stands s rest h b → refusal s h (AskFigure p date) ≡ None → cond (in_sheet b p (place s date)) (cell b p (place s date)) 0 ≡ figure s h p (place s date)
 figure_shown s h b p date stands none =
     let all = accepted s h (AskFigure p date) none in
     let numbers = and_parts (leb 1 p) (leb p s.points) (not-false _ all.0) in

@@ -1,5 +1,5 @@
 -- A degree-day count that the estimator has taken. Assumes nothing.
-use Rattle.std.proofs.Common.{◌≡◌, ℕ, ◌+◌, ◌<◌, ◌≤◌, true, cond, ◌∷◌, IfOk, Some, None, Ok, Err, Result, sym, ap, ◌∙◌, subst, ⊎_elim, arith}
+use Rattle.std.proofs.Common.{◌≡◌, ℕ, ◌+◌, ◌<◌, ◌≤◌, true, cond, List, ◌∷◌, IfOk, Some, None, Ok, Err, Result, sym, ap, ◌∙◌, subst, ⊎_elim, arith}
 use Rattle.std.proofs.lemmas.Bool.{and_from, both_ways, cases_eq, eq-eqb, le-leb, ne_eqb}
 use Rattle.std.specs.Option.{option_or}
 use Rattle.estimators.specs.Meaning.{Entered, Meaning, weather_within}
@@ -9,13 +9,14 @@ use Rattle.histories.specs.History.{History, Setting, count_of}
 use Rattle.histories.specs.declared.call.Call.TheVariants.{EnterDegreeDays}
 use Rattle.histories.specs.declared.entry.Entry.TheVariants.{DegreeDaysEntered}
 use Rattle.ledger.proofs.Entries.{count_followed}
+use Rattle.ledger.specs.Beyond.{beyond_days}
 use Rattle.ledger.specs.Told as ledgers
 use Rattle.refusals.specs.Answers.{Answers, refused_since}
 use Rattle.refusals.specs.declared.refusal.Refusal.{Refusal}
 use Rattle.sheet.specs.Told.{Estimates, Stands}
 use Rattle.sheet.specs.declared.state.Sheet.{Sheet}
 use Rattle.sheet_laws.proofs.Entered.{entry_in}
-use Rattle.book.specs.Follows.{Follows}
+use Rattle.book.specs.Follows.{Beyond, Follows}
 use Rattle.book.specs.Replies.{accepted, after, answer, told}
 use Rattle.book.specs.declared.book.Book.{Book}
 use Rattle.book.proofs.Steps.{entry_follows, granted_answers}
@@ -41,17 +42,17 @@ pub count_weather : (s : Setting) (day count : ℕ) (m m' : Meaning) (u u' : ℕ
 count_weather s day count m m' u u' entered weather e p d = entered.stands e p d ∙ weather e p d
 
 -- a count that a book accepts is one that an estimator takes
-pub taken_within : (s : Setting) (h : History) (date count day : ℕ) (b : Sheet) → Lawful s h → Stands s h b → (refusal s h (EnterDegreeDays date count) ≡ None) × (entry_of s (EnterDegreeDays date count) ≡ Some (DegreeDaysEntered day count)) → weather_within (day + 1) count ≡ true
+pub taken_within : (s : Setting) {rest : List ℕ} (h : History) (date count day : ℕ) (b : Sheet) → Lawful s h → Stands s rest h b → (refusal s h (EnterDegreeDays date count) ≡ None) × (entry_of s (EnterDegreeDays date count) ≡ Some (DegreeDaysEntered day count)) → weather_within (day + 1) count ≡ true
 taken_within s h date count day b lawful stands judged =
     let inside = entry_in s h (DegreeDaysEntered day count) (lawful, (EnterDegreeDays date count, judged.0, judged.1)) in
     weather_fits day count (omega (arith, inside.0, stands.days, b.few_days)) inside.1
 
 -- a book and an estimator that have taken an accepted count follow it, and an accepted count is always taken
-pub count_entered : (s : Setting) (h : History) (date count day : ℕ) (b b' : Book) (m m' : Meaning) (u u' : ℕ → Meaning) (r : Result (Unit {0}) Refusal) → Follows s h b m u
+pub count_entered : (s : Setting) {rest : Beyond} (h : History) (date count day : ℕ) (b b' : Book) (m m' : Meaning) (u u' : ℕ → Meaning) (r : Result (Unit {0}) Refusal) → Follows s rest h b m u
     → (refusal s h (EnterDegreeDays date count) ≡ None) × (entry_of s (EnterDegreeDays date count) ≡ Some (DegreeDaysEntered day count))
     → Answers r (weather_within (day + 1) count) tt 3 → b'.ledger ≡ b.ledger → (weather_within (day + 1) count ≡ true → Entered (day + 1) count m m' u u')
-    → IfOk r (λ _. (s : Setting) (h : History) → Lawful s (DegreeDaysEntered day count ∷ h) → ledgers.Follows s (DegreeDaysEntered day count ∷ h) b.ledger → Estimates s (DegreeDaysEntered day count ∷ h) m' → Stands s h b.sheet → Stands s (DegreeDaysEntered day count ∷ h) b'.sheet)
-    → (told (λ _. accepted) r ≡ answer s h (EnterDegreeDays date count)) × Follows s (after s h (EnterDegreeDays date count)) b' m' u'
+    → IfOk r (λ _. (s : Setting) (rest : List ℕ) (h : History) → Lawful s (DegreeDaysEntered day count ∷ h) → ledgers.Follows s (DegreeDaysEntered day count ∷ h) b.ledger → Estimates s (DegreeDaysEntered day count ∷ h) m' → Stands s rest h b.sheet → Stands s rest (DegreeDaysEntered day count ∷ h) b'.sheet)
+    → (told (λ _. accepted) r ≡ answer s h (EnterDegreeDays date count)) × Follows s rest (after s h (EnterDegreeDays date count)) b' m' u'
 count_entered s h date count day b b' m m' u u' (Err e) f judged answers same taken stands =
     absurd (both_ways _ (refused_since e (weather_within (day + 1) count) (λ (x : Unit {0}). x ≡ tt) 3 answers).0 (taken_within s h date count day b.sheet f.lawful f.figures judged))
 count_entered s h date count day b b' m m' u u' (Ok x) f judged answers same taken stands =
@@ -60,5 +61,5 @@ count_entered s h date count day b b' m m' u u' (Ok x) f judged answers same tak
     let entries = count_followed day count f.entries in (
       granted_answers s h (EnterDegreeDays date count) judged.0,
       entry_follows s h (EnterDegreeDays date count) (DegreeDaysEntered day count) b b' m m' u u' f judged.0 judged.1
-          (subst (λ l. ledgers.Follows s (DegreeDaysEntered day count ∷ h) l) (sym same) entries) on (count_weather s day count m m' u u' entered f.weather) (λ lawful. stands s h lawful entries on f.figures),
+          (subst (λ l. ledgers.Follows s (DegreeDaysEntered day count ∷ h) l) (sym same) entries) (ap beyond_days same) on (count_weather s day count m m' u u' entered f.weather) (λ lawful. stands s _ h lawful entries on f.figures),
     )

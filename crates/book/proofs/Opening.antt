@@ -1,11 +1,12 @@
 -- What opens, as it is taken out of its answer. Assumes nothing.
-use Rattle.std.proofs.Common.{◌≡◌, ℕ, ◌*◌, true, false, List, [], drop, is_ok, IfOk, IfErr, Ok, Err, vec_items, vec_len, Option, Result, Vec, subst, MatchResult}
+use Rattle.std.proofs.Common.{◌≡◌, ℕ, ◌*◌, true, false, List, [], drop, is_ok, IfOk, IfErr, Ok, Err, vec_items, vec_len, Option, Result, Vec, ap, ◌∙◌, subst, MatchResult}
 use Rattle.std.proofs.lemmas.Bool.{false≢true, true≢false}
 use Rattle.std.specs.declared.alloc.Global.{Global}
 use Rattle.estimators.specs.Meaning.{Meaning}
 use Rattle.histories.specs.Calls.{meters}
 use Rattle.histories.specs.History.{Setting}
 use Rattle.histories.specs.declared.entry.Reading.{Reading}
+use Rattle.ledger.specs.Beyond.{beyond_days}
 use Rattle.ledger.specs.Opened.{OpenedAs, setting_of}
 use Rattle.ledger.specs.Told.{Follows}
 use Rattle.ledger.specs.declared.open.Unopened.{Unopened}
@@ -15,15 +16,21 @@ use Rattle.sheet.specs.Told.{Stands}
 use Rattle.sheet.specs.declared.state.Sheet.{Sheet}
 
 pub opened_ledger : (first days points unaccounted : ℕ) (intervals : Vec ℕ Global) (places : Vec (Option Reading) Global) (r : Result Ledger Unopened) (l : Ledger) → r ≡ Ok l
-    → OpenedAs first days points unaccounted intervals places r → (sheet_beyond : List ℕ) (m : Meaning) (u : ℕ → Meaning)
-    → Follows (setting_of first days points unaccounted (vec_len places) sheet_beyond (drop (days * meters) (vec_items intervals)) m u) [] l
+    → OpenedAs first days points unaccounted intervals places r → (m : Meaning) (u : ℕ → Meaning)
+    → Follows (setting_of first days points unaccounted (vec_len places) m u) [] l
 opened_ledger first days points unaccounted intervals places r l is opened = (subst (OpenedAs first days points unaccounted intervals places) is opened).1
 
+-- and what lies beyond the book's days in its interval list is as it was
+pub opened_beyond : (first days points unaccounted : ℕ) (intervals : Vec ℕ Global) (places : Vec (Option Reading) Global) (r : Result Ledger Unopened) (l : Ledger) → r ≡ Ok l
+    → OpenedAs first days points unaccounted intervals places r → l.opening.days ≡ days → beyond_days l ≡ drop (days * meters) (vec_items intervals)
+opened_beyond first days points unaccounted intervals places r l is opened many =
+    ap (λ (n : ℕ). drop (n * meters) (vec_items l.intervals)) many ∙ (subst (OpenedAs first days points unaccounted intervals places) is opened).2
+
 pub opened_sheet : (days points : ℕ) (figures : Vec ℕ Global) (r : Result Sheet (Vec ℕ Global)) (b : Sheet) → r ≡ Ok b
-    → MatchResult r (λ b. (s : Setting) → s.days ≡ days → s.points ≡ points → s.sheet_beyond ≡ drop (days * points) (vec_items figures) → Stands s [] b) (λ list. list ≡ figures)
-    → (s : Setting) → s.days ≡ days → s.points ≡ points → s.sheet_beyond ≡ drop (days * points) (vec_items figures) → Stands s [] b
+    → MatchResult r (λ b. (s : Setting) → s.days ≡ days → s.points ≡ points → Stands s (drop (days * points) (vec_items figures)) [] b) (λ list. list ≡ figures)
+    → (s : Setting) → s.days ≡ days → s.points ≡ points → Stands s (drop (days * points) (vec_items figures)) [] b
 opened_sheet days points figures r b is opened =
-    subst (λ x. MatchResult x (λ y. (s : Setting) → s.days ≡ days → s.points ≡ points → s.sheet_beyond ≡ drop (days * points) (vec_items figures) → Stands s [] y) (λ list. list ≡ figures)) is opened
+    subst (λ x. MatchResult x (λ y. (s : Setting) → s.days ≡ days → s.points ≡ points → Stands s (drop (days * points) (vec_items figures)) [] y) (λ list. list ≡ figures)) is opened
 
 -- what is promised where an answer is accepted, and where it is refused
 pub made_holds : (r : Result (Unit {0}) Refusal) (P : Type 0) → IfOk r (λ _. P) → is_ok r ≡ true → P

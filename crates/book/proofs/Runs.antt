@@ -8,7 +8,7 @@ use Rattle.histories.specs.Calls.{Lawful, entry_of, refusal}
 use Rattle.histories.specs.History.{History, Setting}
 use Rattle.histories.specs.declared.call.Call.{Call}
 use Rattle.histories.specs.declared.entry.Entry.{Entry}
-use Rattle.book.specs.Follows.{Follows}
+use Rattle.book.specs.Follows.{Beyond, Follows}
 use Rattle.book.specs.Law.{Law}
 use Rattle.book.specs.Replies.{after, answer, answers_of, history_after, leaves, lengthened, reply}
 use Rattle.book.specs.declared.answer.Answer.{Answer}
@@ -38,30 +38,30 @@ lawful_after s h [] lawful = lawful
 lawful_after s h (c ∷ cs) lawful = lawful_after s (after s h c) cs (lawful_lengthened s h c (refusal s h c) (entry_of s c) refl refl lawful)
 
 -- the first i calls of cs are answered in rs, and b, m and u stand as they leave them
-pub record Ran (s : Setting) (h : History) (cs : List Call) (rs : List Answer) (i : ℕ) (b : Book) (m : Meaning) (u : ℕ → Meaning) : Type 0 where
+pub record Ran (s : Setting) (rest : Beyond) (h : History) (cs : List Call) (rs : List Answer) (i : ℕ) (b : Book) (m : Meaning) (u : ℕ → Meaning) : Type 0 where
   pub answered : map reply (take i rs) ≡ answers_of s h (take i cs)
-  pub follows : Follows s (history_after s h (take i cs)) b m u
+  pub follows : Follows s rest (history_after s h (take i cs)) b m u
 
 -- the call at place i, answered by r, makes it i + 1
-pub ran_more : {s : Setting} {h : History} {cs : List Call} {rs : List Answer} {i : ℕ} (d : Call) (r : Answer) {b b' : Book} {m m' : Meaning} {u u' : ℕ → Meaning}
-    → i < length cs → i < length rs → Ran s h cs rs i b m u
-    → (reply r ≡ answer s (history_after s h (take i cs)) (get_or cs i d)) × Follows s (after s (history_after s h (take i cs)) (get_or cs i d)) b' m' u' → Ran s h cs (set rs i r) (i + 1) b' m' u'
-ran_more {s} {h} {cs} {rs} {i} d r {b} {b'} {m} {m'} {u} {u'} in_cs in_rs old new =
+pub ran_more : {s : Setting} {rest : Beyond} {h : History} {cs : List Call} {rs : List Answer} {i : ℕ} (d : Call) (r : Answer) {b b' : Book} {m m' : Meaning} {u u' : ℕ → Meaning}
+    → i < length cs → i < length rs → Ran s rest h cs rs i b m u
+    → (reply r ≡ answer s (history_after s h (take i cs)) (get_or cs i d)) × Follows s rest (after s (history_after s h (take i cs)) (get_or cs i d)) b' m' u' → Ran s rest h cs (set rs i r) (i + 1) b' m' u'
+ran_more {s} {rest} {h} {cs} {rs} {i} d r {b} {b'} {m} {m'} {u} {u'} in_cs in_rs old new =
     let one_more : take (i + 1) cs ≡ take i cs ++ (get_or cs i d ∷ []) = take_more cs i d in_cs in
     let written : take (i + 1) (set rs i r) ≡ take i rs ++ (r ∷ []) = take_more_set rs i r in_rs in
     record {
       answered =
           ap (map reply) written ∙ replies_push (take i rs) r ∙ (λ k. old.answered k ++ (new.0 k ∷ [])) ∙ sym (answers_push s h (take i cs) (get_or cs i d)) ∙ ap (answers_of s h) (sym one_more);
-      follows = subst (λ x. Follows s x b' m' u') (sym (ap (history_after s h) one_more ∙ history_push s h (take i cs) (get_or cs i d))) new.1;
+      follows = subst (λ x. Follows s rest x b' m' u') (sym (ap (history_after s h) one_more ∙ history_push s h (take i cs) (get_or cs i d))) new.1;
     }
 
 -- when all calls are answered the law holds of the run
-pub ran_all : {s : Setting} {h : History} {cs : List Call} {rs : List Answer} {i : ℕ} {b : Book} {m : Meaning} {u : ℕ → Meaning} → Lawful s h → i ≡ length cs → Ran s h cs rs i b m u → Law s h cs rs b m u
-ran_all {s} {h} {cs} {rs} {i} {b} {m} {u} lawful e ran =
+pub ran_all : {s : Setting} {rest : Beyond} {h : History} {cs : List Call} {rs : List Answer} {i : ℕ} {b : Book} {m : Meaning} {u : ℕ → Meaning} → Lawful s h → i ≡ length cs → Ran s rest h cs rs i b m u → Law s rest h cs rs b m u
+ran_all {s} {rest} {h} {cs} {rs} {i} {b} {m} {u} lawful e ran =
     let all : take i cs ≡ cs = ap (λ n. take n cs) e ∙ take_all (length cs) cs (omega arith) in
     record {
       answered = ap (λ n. map reply (take n rs)) (sym e) ∙ ran.answered ∙ ap (answers_of s h) all;
-      follows = subst (λ x. Follows s (history_after s h x) b m u) all ran.follows;
+      follows = subst (λ x. Follows s rest (history_after s h x) b m u) all ran.follows;
       moments = λ before rest split. moment s (history_after s h before) (lawful_after s h before lawful);
       moves = λ before call rest split. moves s (history_after s h before) call (lawful_after s h before lawful);
     }

@@ -9,12 +9,13 @@ use Rattle.histories.specs.History.{History, Setting, count_in, count_of}
 use Rattle.histories.specs.declared.call.Call.{Call}
 use Rattle.histories.specs.declared.call.Call.TheVariants.{Enrol, EnterGate, EnterInterval, EnterDegreeDays, EnterReading, AskFigure, AskDay, AskRetailer}
 use Rattle.histories.specs.declared.entry.Entry.{Entry}
+use Rattle.ledger.specs.Beyond.{beyond_days}
 use Rattle.ledger.specs.Told as ledgers
 use Rattle.ledger.specs.declared.state.Ledger.{Ledger}
 use Rattle.refusals.specs.Numbers.{number_of, day_named}
 use Rattle.refusals.specs.declared.refusal.Refusal.{Refusal}
 use Rattle.sheet.specs.Told.{Estimates, Stands, Told}
-use Rattle.book.specs.Follows.{Follows}
+use Rattle.book.specs.Follows.{Beyond, Follows}
 use Rattle.book.specs.Replies.{accepted, after, answer, granted, is_count, lengthened, refused, unless_refused}
 use Rattle.book.specs.declared.book.Book.{Book}
 
@@ -26,8 +27,8 @@ module _ (s : Setting) (h : History) (c : Call) where
   pub refusal_stays : (n : ℕ) → refusal s h c ≡ Some n → after s h c ≡ h
   refusal_stays n is = ap (λ o. lengthened o (entry_of s c) h) is
 
-  pub refused_follows : (n : ℕ) (b : Book) (m : Meaning) (u : ℕ → Meaning) → refusal s h c ≡ Some n → Follows s h b m u → Follows s (after s h c) b m u
-  refused_follows n b m u is f = subst (λ x. Follows s x b m u) (sym (refusal_stays n is)) f
+  pub refused_follows : {rest : Beyond} (n : ℕ) (b : Book) (m : Meaning) (u : ℕ → Meaning) → refusal s h c ≡ Some n → Follows s rest h b m u → Follows s rest (after s h c) b m u
+  refused_follows {rest} n b m u is f = subst (λ x. Follows s rest x b m u) (sym (refusal_stays n is)) f
 
   -- a call that is not refused
   pub granted_answers : refusal s h c ≡ None → granted s h c ≡ answer s h c
@@ -40,12 +41,12 @@ module _ (s : Setting) (h : History) (c : Call) where
   entry_lengthens e none is = λ i. lengthened (none i) (is i) h
 
   -- what an accepted entry leaves follows the longer history
-  pub entry_follows : (e : Entry) (b b' : Book) (m m' : Meaning) (u u' : ℕ → Meaning) → Follows s h b m u → refusal s h c ≡ None → entry_of s c ≡ Some e
-      → ledgers.Follows s (e ∷ h) b'.ledger → Estimates s (e ∷ h) m' → ((count p d : ℕ) → u' count p d ≡ s.weather count p d) → (Lawful s (e ∷ h) → Stands s (e ∷ h) b'.sheet) → Follows s (after s h c) b' m' u'
-  entry_follows e b b' m m' u u' f none is entries estimates weather stands =
+  pub entry_follows : {rest : Beyond} (e : Entry) (b b' : Book) (m m' : Meaning) (u u' : ℕ → Meaning) → Follows s rest h b m u → refusal s h c ≡ None → entry_of s c ≡ Some e
+      → ledgers.Follows s (e ∷ h) b'.ledger → beyond_days b'.ledger ≡ beyond_days b.ledger → Estimates s (e ∷ h) m' → ((count p d : ℕ) → u' count p d ≡ s.weather count p d) → (Lawful s (e ∷ h) → Stands s rest.sheet (e ∷ h) b'.sheet) → Follows s rest (after s h c) b' m' u'
+  entry_follows {rest} e b b' m m' u u' f none is entries beyond estimates weather stands =
       let lawful : Lawful s (e ∷ h) = (f.lawful, (c, none, is)) in
-      subst (λ x. Follows s x b' m' u') (sym (entry_lengthens e none is))
-      (record { lawful = lawful; limited = f.limited; entries = entries; figures = stands lawful; estimates = estimates; weather = weather })
+      subst (λ x. Follows s rest x b' m' u') (sym (entry_lengthens e none is))
+      (record { lawful = lawful; limited = f.limited; entries = entries; figures = stands lawful; intervals = beyond ∙ f.intervals; estimates = estimates; weather = weather })
 
 -- the count that an entry gives a day, if there is an entry
 abbrev pub counts_in : ℕ → Option Entry → Option ℕ
@@ -58,26 +59,26 @@ silent_estimates s h c e m is silent on d p =
     on d p ∙ sym (ap (λ o. under_count s (option_or o (count_of h d)) p d) (ap (counts_in d) (sym is) ∙ silent d))
 
 -- an equal book follows what a book follows
-pub same_follows : {s : Setting} {h : History} {b b' : Book} {m : Meaning} {u : ℕ → Meaning} → b' ≡ b → Follows s h b m u → Follows s h b' m u
-same_follows {s} {h} {b} {b'} {m} {u} same f = subst (λ x. Follows s h x m u) (sym same) f
+pub same_follows : {s : Setting} {rest : Beyond} {h : History} {b b' : Book} {m : Meaning} {u : ℕ → Meaning} → b' ≡ b → Follows s rest h b m u → Follows s rest h b' m u
+same_follows {s} {rest} {h} {b} {b'} {m} {u} same f = subst (λ x. Follows s rest h x m u) (sym same) f
 
 -- A refused entry leaves all as it was, and is answered so.
-pub refused_entry : (s : Setting) (h : History) (c : Call) (e : Refusal) (b b' : Book) (m : Meaning) (u : ℕ → Meaning) → b' ≡ b → (refusal s h c ≡ Some (number_of e)) × (day_named e ≡ named_by s h c (number_of e)) → Follows s h b m u → (refused (number_of e) (day_named e) ≡ answer s h c) × Follows s (after s h c) b' m u
+pub refused_entry : (s : Setting) {rest : Beyond} (h : History) (c : Call) (e : Refusal) (b b' : Book) (m : Meaning) (u : ℕ → Meaning) → b' ≡ b → (refusal s h c ≡ Some (number_of e)) × (day_named e ≡ named_by s h c (number_of e)) → Follows s rest h b m u → (refused (number_of e) (day_named e) ≡ answer s h c) × Follows s rest (after s h c) b' m u
 refused_entry s h c e b b' m u same judged f =
     (refusal_answers s h c e judged.0 judged.1, refused_follows s h c (number_of e) b' m u judged.0 (same_follows same f))
 
 -- An accepted entry that is no count: the ledger holds it, and the sheet follows it.
-pub accepted_entry : (s : Setting) (h : History) (c : Call) (e : Entry) (l : Ledger) (b b' : Book) (m : Meaning) (u : ℕ → Meaning)
-    → Follows s h b m u → (refusal s h c ≡ None) × (entry_of s c ≡ Some e) → ledgers.Follows s (e ∷ h) l → b'.ledger ≡ l → ((d : ℕ) → counts_in d (entry_of s c) ≡ None)
-    → (Lawful s (e ∷ h) → ledgers.Follows s (e ∷ h) l → Estimates s (e ∷ h) m → Stands s h b.sheet → Stands s (e ∷ h) b'.sheet) → (granted s h c ≡ answer s h c) × Follows s (after s h c) b' m u
-accepted_entry s h c e l b b' m u f judged entries same silent stands =
+pub accepted_entry : (s : Setting) {rest : Beyond} (h : History) (c : Call) (e : Entry) (l : Ledger) (b b' : Book) (m : Meaning) (u : ℕ → Meaning)
+    → Follows s rest h b m u → (refusal s h c ≡ None) × (entry_of s c ≡ Some e) → ledgers.Follows s (e ∷ h) l → beyond_days l ≡ beyond_days b.ledger → b'.ledger ≡ l → ((d : ℕ) → counts_in d (entry_of s c) ≡ None)
+    → (Lawful s (e ∷ h) → ledgers.Follows s (e ∷ h) l → Estimates s (e ∷ h) m → Stands s rest.sheet h b.sheet → Stands s rest.sheet (e ∷ h) b'.sheet) → (granted s h c ≡ answer s h c) × Follows s rest (after s h c) b' m u
+accepted_entry s h c e l b b' m u f judged entries beyond same silent stands =
     let on = silent_estimates s h c e m judged.1 silent f.estimates in (
       granted_answers s h c judged.0,
-      entry_follows s h c e b b' m m u u f judged.0 judged.1 (subst (λ x. ledgers.Follows s (e ∷ h) x) (sym same) entries) on f.weather (λ lawful. stands lawful entries on f.figures),
+      entry_follows s h c e b b' m m u u f judged.0 judged.1 (subst (λ x. ledgers.Follows s (e ∷ h) x) (sym same) entries) (ap beyond_days same ∙ beyond) on f.weather (λ lawful. stands lawful entries on f.figures),
     )
 
 -- ledger and sheet of a book that follows a history have been told it
-pub told_book : {s : Setting} {h : History} {b : Book} {m : Meaning} {u : ℕ → Meaning} → Follows s h b m u → Told s h b.ledger b.sheet
+pub told_book : {s : Setting} {rest : Beyond} {h : History} {b : Book} {m : Meaning} {u : ℕ → Meaning} → Follows s rest h b m u → Told s h b.ledger b.sheet
 told_book f = record {
   lawful = f.lawful;
   follows = f.entries;
@@ -114,12 +115,13 @@ entry_granted s h (AskDay date) e is = let z : ◌≡◌ {A = ℕ} 0 1 = cc in a
 entry_granted s h (AskRetailer retailer date) e is = let z : ◌≡◌ {A = ℕ} 0 1 = cc in absurd (omega arith)
 
 -- A book follows the same history where its ledger does and its sheet is the same.
-pub ledger_follows : {s : Setting} {h : History} {b b' : Book} {m : Meaning} {u : ℕ → Meaning} → Follows s h b m u → ledgers.Follows s h b'.ledger → b'.sheet ≡ b.sheet → Follows s h b' m u
-ledger_follows {s} {h} f entries sheets = record {
+pub ledger_follows : {s : Setting} {rest : Beyond} {h : History} {b b' : Book} {m : Meaning} {u : ℕ → Meaning} → Follows s rest h b m u → ledgers.Follows s h b'.ledger → beyond_days b'.ledger ≡ beyond_days b.ledger → b'.sheet ≡ b.sheet → Follows s rest h b' m u
+ledger_follows {s} {rest} {h} f entries beyond sheets = record {
   lawful = f.lawful;
   limited = f.limited;
   entries = entries;
-  figures = subst (Stands s h) (sym sheets) f.figures;
+  figures = subst (Stands s rest.sheet h) (sym sheets) f.figures;
+  intervals = beyond ∙ f.intervals;
   estimates = f.estimates;
   weather = f.weather;
 }

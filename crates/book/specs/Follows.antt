@@ -1,10 +1,11 @@
 -- A book and its estimator stand as a history leaves them.
-use Rattle.std.specs.Prelude.{◌≡◌, ℕ, false, IfErr, Result}
+use Rattle.std.specs.Prelude.{◌≡◌, ℕ, false, List, IfErr, Result}
 use Rattle.estimators.specs.Meaning.{Meaning}
 use Rattle.histories.specs.Calls.{Lawful}
 use Rattle.histories.specs.History.{History, Setting}
 use Rattle.histories.specs.declared.call.Call.{Call}
 use Rattle.histories.specs.declared.entry.Entry.{Entry}
+use Rattle.ledger.specs.Beyond.{beyond_days}
 use Rattle.ledger.specs.Told as ledgers
 use Rattle.refusals.specs.declared.refusal.Refusal.{Refusal}
 use Rattle.sheet.specs.Asking.{Limited}
@@ -12,25 +13,32 @@ use Rattle.sheet.specs.Told.{Estimates, Stands}
 use Rattle.book.specs.Replies.{Reply, accepted, after, answer, is_count, told}
 use Rattle.book.specs.declared.book.Book.{Book}
 
-pub record Follows (s : Setting) (h : History) (b : Book) (m : Meaning) (u : ℕ → Meaning) : Type 0 where
+-- what the sheet and the interval list hold beyond the book's places
+pub record Beyond : Type 0 where
+  pub sheet : List ℕ
+  pub intervals : List ℕ
+
+pub record Follows (s : Setting) (rest : Beyond) (h : History) (b : Book) (m : Meaning) (u : ℕ → Meaning) : Type 0 where
   -- every entry of the history was accepted after those before it
   pub lawful : Lawful s h
   pub limited : Limited s
   -- gates, interval energies, enrolments and held readings lie where they should, each held reading in one place
   pub entries : ledgers.Follows s h b.ledger
   -- the sheet shows every figure as the rules make it, and what lies beyond its places stays
-  pub figures : Stands s h b.sheet
+  pub figures : Stands s rest.sheet h b.sheet
+  -- and so does what lies beyond the places of the interval list
+  pub intervals : beyond_days b.ledger ≡ rest.intervals
   -- the estimator means the latest estimates, and under each count what it meant at the opening
   pub estimates : Estimates s h m
   pub weather : (count p d : ℕ) → u count p d ≡ s.weather count p d
 
 -- an entry: whatever was followed, the answer is the law's, and what the law accepts is followed
 pub record Entered (c : Call) (r : Result (Unit {0}) Refusal) (b : Book) (m : Meaning) (u : ℕ → Meaning) (b' : Book) (m' : Meaning) (u' : ℕ → Meaning) : Type 0 where
-  pub law : (s : Setting) (h : History) → Follows s h b m u → (told (λ _. accepted) r ≡ answer s h c) × Follows s (after s h c) b' m' u'
+  pub law : (s : Setting) (rest : Beyond) (h : History) → Follows s rest h b m u → (told (λ _. accepted) r ≡ answer s h c) × Follows s rest (after s h c) b' m' u'
 
 -- a question: whatever was followed, the answer is the law's
 pub record Answers {X : Type 0} (c : Call) (says : X → Reply) (r : Result X Refusal) (b : Book) (m : Meaning) (u : ℕ → Meaning) : Type 0 where
-  pub law : (s : Setting) (h : History) → Follows s h b m u → told says r ≡ answer s h c
+  pub law : (s : Setting) (rest : Beyond) (h : History) → Follows s rest h b m u → told says r ≡ answer s h c
 
 -- the ledger of a book has judged a question about a date
 pub record Judged (c : Call) (date : ℕ) (r : Result ℕ Refusal) (b : Book) : Type 0 where
@@ -48,4 +56,5 @@ pub record LedgerLeft (r : Result Entry Refusal) (b b' : Book) : Type 0 where
 pub record LedgerAnswered (c : Call) (r : Result Entry Refusal) (b b' : Book) : Type 0 where
   pub sheet : b'.sheet ≡ b.sheet
   pub answered : ledgers.Answered c b.ledger r b'.ledger
+  pub beyond : beyond_days b'.ledger ≡ beyond_days b.ledger
   pub no_count : is_count c ≡ false

@@ -8,7 +8,7 @@ use Rattle.histories.specs.History.{Setting}
 use Rattle.histories.specs.declared.entry.Reading.{Reading}
 use Rattle.ledger.specs.Opened.{beyond, setting_of}
 use Rattle.refusals.specs.Numbers.{number_of}
-use Rattle.book.specs.Follows.{Follows}
+use Rattle.book.specs.Follows.{Beyond, Follows}
 use Rattle.book.specs.declared.book.Book.{Book}
 use Rattle.book.specs.declared.open.Unopened.{Unopened}
 
@@ -25,16 +25,19 @@ opening_refusal first days points unaccounted sheet_places interval_places readi
     ∷ record { number = 4; holds = not (is_date first) }
     ∷ record { number = 15; holds = short_lists days points sheet_places interval_places reading_places } ∷ [])
 
--- the setting of a book that opens in these lists, beside an estimator
-abbrev pub setting : ℕ → ℕ → ℕ → ℕ → Vec ℕ Global → Vec ℕ Global → Vec (Option Reading) Global → Meaning → (ℕ → Meaning) → Setting
-setting first days points unaccounted sheet intervals readings m u =
-    setting_of first days points unaccounted (vec_len readings) (drop (days * points) (vec_items sheet)) (drop (days * meters) (vec_items intervals)) m u
+-- the setting of a book that opens with these reading places, beside an estimator
+abbrev pub setting : ℕ → ℕ → ℕ → ℕ → Vec (Option Reading) Global → Meaning → (ℕ → Meaning) → Setting
+setting first days points unaccounted readings m u = setting_of first days points unaccounted (vec_len readings) m u
+
+-- what lists hold beyond the places of a book of so many days and points
+abbrev pub rest_of : ℕ → ℕ → Vec ℕ Global → Vec ℕ Global → Beyond
+rest_of days points sheet intervals = record { sheet = drop (days * points) (vec_items sheet); intervals = drop (days * meters) (vec_items intervals) }
 
 -- what opens follows the empty history beside every estimator that keeps within its limits
 abbrev pub OpenedAs : ℕ → ℕ → ℕ → ℕ → Vec ℕ Global → Vec ℕ Global → Vec (Option Reading) Global → Result Book Unopened → Type 0
 OpenedAs first days points unaccounted sheet intervals readings (Ok b) =
     (opening_refusal first days points unaccounted (vec_len sheet) (vec_len intervals) (vec_len readings) ≡ None)
-    × ((m : Meaning) (u : ℕ → Meaning) → Bounded m → BoundedUnder u → Follows (setting first days points unaccounted sheet intervals readings m u) [] b m u)
+    × ((m : Meaning) (u : ℕ → Meaning) → Bounded m → BoundedUnder u → Follows (setting first days points unaccounted readings m u) (rest_of days points sheet intervals) [] b m u)
 OpenedAs first days points unaccounted sheet intervals readings (Err e) =
     opening_refusal first days points unaccounted (vec_len sheet) (vec_len intervals) (vec_len readings) ≡ Some (number_of e.refusal)
 

@@ -1,4 +1,4 @@
-ghost use Rattle.std.specs.Prelude.{◌≡◌, ◌+◌, ◌<◌, true, ◌∷◌, OnErr, OnOk};
+ghost use Rattle.std.specs.Prelude.{◌≡◌, ℕ, ◌+◌, ◌<◌, true, List, ◌∷◌, OnErr, OnOk};
 ghost use Rattle.estimators.specs.Meaning.{Entered, weather_within};
 ghost use Rattle.refusals.specs.Answers.{Answers};
 ghost use Rattle.histories.specs.declared.entry.Entry.TheVariants.{DegreeDaysEntered};
@@ -19,7 +19,7 @@ impl Book {
     // Works out anew what an entry can move, once the ledger holds it.
     pub(crate) fn follow<E: Estimator>(&mut self, estimator: &E, entry: Entry)
         ensures ledger { self.new.ledger ≡ self.old.ledger }
-        ensures law { (s : Setting) (h : History) → Lawful s (entry ∷ h) → Follows s (entry ∷ h) self.old.ledger → Estimates s (entry ∷ h) (E.Estimator.meaning estimator.now) → Stands s h self.old.sheet → Stands s (entry ∷ h) self.new.sheet }
+        ensures law { (s : Setting) (rest : List ℕ) (h : History) → Lawful s (entry ∷ h) → Follows s (entry ∷ h) self.old.ledger → Estimates s (entry ∷ h) (E.Estimator.meaning estimator.now) → Stands s rest h self.old.sheet → Stands s rest (entry ∷ h) self.new.sheet }
     {
         match entry {
             Entry::Enrolled { point, enrolment } => {
@@ -63,7 +63,7 @@ impl Book {
         ensures refused { OnErr result ((self.new ≡ self.old) × (estimator.new ≡ estimator.old)) }
         ensures ledger { self.new.ledger ≡ self.old.ledger }
         ensures weather { weather_within (day + 1) count ≡ true → Entered (day + 1) count (E.Estimator.meaning estimator.old) (E.Estimator.meaning estimator.new) (E.Weather.under estimator.old) (E.Weather.under estimator.new) }
-        ensures figures { OnOk result ((s : Setting) (h : History) → Lawful s (DegreeDaysEntered day count ∷ h) → Follows s (DegreeDaysEntered day count ∷ h) self.old.ledger → Estimates s (DegreeDaysEntered day count ∷ h) (E.Estimator.meaning estimator.new) → Stands s h self.old.sheet → Stands s (DegreeDaysEntered day count ∷ h) self.new.sheet) }
+        ensures figures { OnOk result ((s : Setting) (rest : List ℕ) (h : History) → Lawful s (DegreeDaysEntered day count ∷ h) → Follows s (DegreeDaysEntered day count ∷ h) self.old.ledger → Estimates s (DegreeDaysEntered day count ∷ h) (E.Estimator.meaning estimator.new) → Stands s rest h self.old.sheet → Stands s rest (DegreeDaysEntered day count ∷ h) self.new.sheet) }
     {
         estimator.enter(day + 1, count)?;
         self.follow(estimator, Entry::DegreeDaysEntered { day, count });

@@ -2,9 +2,9 @@ ghost use Rattle.std.specs.Prelude.{◌≡◌, true, false, T, [], length, take,
 ghost use Rattle.std.specs.List.{list_all};
 ghost use Rattle.refusals.specs.Answers.{AcceptedWhen};
 ghost use Rattle.histories.specs.History.{History, Setting};
-ghost use Rattle.book.specs.Follows.{Follows};
+ghost use Rattle.book.specs.Follows.{Beyond, Follows};
 ghost use Rattle.book.specs.Law.{Law};
-ghost use Rattle.book.specs.Opened.{Opens, setting};
+ghost use Rattle.book.specs.Opened.{Opens, rest_of, setting};
 ghost use Rattle.book.specs.Replies.{accepted, after, answer, day_is, figure_is, leaves, reply, sum_is, told};
 
 use super::answer::Answer;
@@ -67,7 +67,7 @@ impl Book {
     // One call, whichever it is.
     fn serve_one<E: Weather>(&mut self, estimator: &mut E, call: Call) -> Answer
         ensures kept { leaves result ≡ true → (self.new ≡ self.old) × (estimator.new ≡ estimator.old) }
-        ensures law { (s : Setting) (h : History) → Follows s h self.old (E.Estimator.meaning estimator.old) (E.Weather.under estimator.old) → (reply result ≡ answer s h call) × Follows s (after s h call) self.new (E.Estimator.meaning estimator.new) (E.Weather.under estimator.new) }
+        ensures law { (s : Setting) (rest : Beyond) (h : History) → Follows s rest h self.old (E.Estimator.meaning estimator.old) (E.Weather.under estimator.old) → (reply result ≡ answer s h call) × Follows s rest (after s h call) self.new (E.Estimator.meaning estimator.new) (E.Weather.under estimator.new) }
     {
         match call {
             Call::Enrol {
@@ -114,7 +114,7 @@ impl Book {
         ensures refused { OnErr result ((self.new ≡ self.old) × (estimator.new ≡ estimator.old) × (answers.new ≡ answers.old)) }
         ensures rest { drop (length calls.now) answers.new ≡ drop (length calls.now) answers.old }
         ensures kept { T (list_all leaves (take (length calls.now) answers.new)) → is_ok result ≡ true → (self.new ≡ self.old) × (estimator.new ≡ estimator.old) }
-        ensures law { OnOk result ((s : Setting) (h : History) → Follows s h self.old (E.Estimator.meaning estimator.old) (E.Weather.under estimator.old) → Law s h calls.now answers.new self.new (E.Estimator.meaning estimator.new) (E.Weather.under estimator.new)) }
+        ensures law { OnOk result ((s : Setting) (rest : Beyond) (h : History) → Follows s rest h self.old (E.Estimator.meaning estimator.old) (E.Weather.under estimator.old) → Law s rest h calls.now answers.new self.new (E.Estimator.meaning estimator.new) (E.Weather.under estimator.new)) }
     {
         if answers.len() < calls.len() {
             return Err(Refusal::ListTooShort);
@@ -141,9 +141,9 @@ impl Book {
         ensures opened { Opens first days points unaccounted sheet intervals readings result }
         ensures refused { IfErr result (λ e. (e.sheet ≡ sheet) × (e.intervals ≡ intervals) × (e.readings ≡ readings) × (estimator.new ≡ estimator.old) × (answers.new ≡ answers.old)) }
         ensures served { IfOk result (λ served. AcceptedWhen served.outcome (nat_le (length calls.now) (length answers.old)) 15) }
-        ensures unserved { IfOk result (λ served. is_ok served.outcome ≡ false → (estimator.new ≡ estimator.old) × (answers.new ≡ answers.old) × Follows (setting first days points unaccounted sheet intervals readings (E.Estimator.meaning estimator.old) (E.Weather.under estimator.old)) [] served.book (E.Estimator.meaning estimator.old) (E.Weather.under estimator.old)) }
+        ensures unserved { IfOk result (λ served. is_ok served.outcome ≡ false → (estimator.new ≡ estimator.old) × (answers.new ≡ answers.old) × Follows (setting first days points unaccounted readings (E.Estimator.meaning estimator.old) (E.Weather.under estimator.old)) (rest_of days points sheet intervals) [] served.book (E.Estimator.meaning estimator.old) (E.Weather.under estimator.old)) }
         ensures rest { OnOk result (drop (length calls.now) answers.new ≡ drop (length calls.now) answers.old) }
-        ensures law { IfOk result (λ served. is_ok served.outcome ≡ true → Law (setting first days points unaccounted sheet intervals readings (E.Estimator.meaning estimator.old) (E.Weather.under estimator.old)) [] calls.now answers.new served.book (E.Estimator.meaning estimator.new) (E.Weather.under estimator.new)) }
+        ensures law { IfOk result (λ served. is_ok served.outcome ≡ true → Law (setting first days points unaccounted readings (E.Estimator.meaning estimator.old) (E.Weather.under estimator.old)) (rest_of days points sheet intervals) [] calls.now answers.new served.book (E.Estimator.meaning estimator.new) (E.Weather.under estimator.new)) }
     {
         let mut book = Book::open(first, days, points, unaccounted, sheet, intervals, readings)?;
         let outcome = book.serve(estimator, calls, answers);

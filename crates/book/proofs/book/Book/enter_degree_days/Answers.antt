@@ -11,7 +11,7 @@ returns-in_err-day g c =
     rw (p.1, p.2) record {
       refused = (refl, refl);
       law = record {
-        law = λ s h f.
+        law = λ s rest h f.
             refused_entry s h (EnterDegreeDays c.args.date c.args.count) c.in_err-day.field-0.0 c.args.self.now _ _ _ refl (c.in_err-day.ensures.law s h f.entries) f;
       };
     }
@@ -20,7 +20,7 @@ pub returns : goal.returns
 returns g c = record {
   refused = c.take_count.ensures.refused;
   law = record {
-    law = λ s h f.
+    law = λ s rest h f.
         count_entered s h c.args.date c.args.count c.in_ok-day.day c.args.self.now c.take_count.new.self _ _ _ _ c.take_count.result f (c.in_ok-day.ensures.law s h f.entries)
         c.take_count.ensures.answer c.take_count.ensures.ledger c.take_count.ensures.weather c.take_count.ensures.figures;
   };

@@ -11,6 +11,7 @@ returns g c = record {
     answered =
         subst (λ (e : ℤ). Answered (EnterReading c.args.point c.args.start c.args.end e c.args.reading_type) c.args.self.now.ledger c.enter_reading-answer.result c.enter_reading-answer.new.self)
         (to_z-of_z c.ranges.energy) c.enter_reading-answer.ensures.law;
+    beyond = c.enter_reading-answer.ensures.beyond;
     no_count = refl;
   });
 }

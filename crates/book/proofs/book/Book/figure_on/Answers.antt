@@ -14,14 +14,14 @@ pub returns-in_err-day : goal.returns-in_err-day
 returns-in_err-day c =
     let p = err_from_is_err_and c.from_residual.result c.from_residual.ensures.1 in
     rw (p.1, p.2) (λ date m u question. record {
-      law = λ s h f.
+      law = λ s rest h f.
           let judged = subst (λ (r : Result ℕ Refusal). Asked s h (AskFigure c.args.point date) date r) c.in_err-day.was (question.law s h f.entries) in
           refusal_answers s h (AskFigure c.args.point date) c.in_err-day.field-0.0 judged.0 judged.1;
     })
 
 pub returns : goal.returns
 returns c = λ date m u question. record {
-  law = λ s h f.
+  law = λ s rest h f.
       let judged = subst (λ (r : Result ℕ Refusal). Asked s h (AskFigure c.args.point date) date r) c.in_ok-day.was (question.law s h f.entries) in
       let sheet = c.args.self.now.sheet in
       ap figure_is

@@ -16,9 +16,9 @@ returns-in-GateEntered g c =
     let is = c.in-GateEntered.is in
     record {
       ledger = refl;
-      law = λ s h lawful follows on stood.
+      law = λ s rest h lawful follows on stood.
           let accepted = subst (λ (e : Entry). Lawful s (e ∷ h)) is lawful in
-          c.reload.ensures s h _ (subst (λ (e : Entry). LoadMoved s h (e ∷ h) day) (sym is) (gate_moved s h day gate accepted)) follows on (entry_in s h (GateEntered day gate) accepted) stood;
+          c.reload.ensures s rest h _ (subst (λ (e : Entry). LoadMoved s h (e ∷ h) day) (sym is) (gate_moved s h day gate accepted)) follows on (entry_in s h (GateEntered day gate) accepted) stood;
     }
 
 pub returns-in-IntervalEntered : goal.returns-in-IntervalEntered
@@ -29,9 +29,9 @@ returns-in-IntervalEntered g c =
     let is = c.in-IntervalEntered.is in
     record {
       ledger = refl;
-      law = λ s h lawful follows on stood.
+      law = λ s rest h lawful follows on stood.
           let accepted = subst (λ (e : Entry). Lawful s (e ∷ h)) is lawful in
-          c.reload-in-IntervalEntered.ensures s h _ (subst (λ (e : Entry). LoadMoved s h (e ∷ h) day) (sym is) (interval_moved s h day meter energy accepted)) follows on
+          c.reload-in-IntervalEntered.ensures s rest h _ (subst (λ (e : Entry). LoadMoved s h (e ∷ h) day) (sym is) (interval_moved s h day meter energy accepted)) follows on
           (entry_in s h (IntervalEntered day meter energy) accepted) stood;
     }
 
@@ -41,8 +41,22 @@ returns-in-DegreeDaysEntered g c =
     let is = c.in-DegreeDaysEntered.is in
     record {
       ledger = refl;
-      law = λ s h lawful follows on stood.
-          subst (λ (e : Entry). Stands s (e ∷ h) c.take_count.new.self) (sym is)
-          (c.take_count.ensures s h count (subst (λ (e : Entry). Lawful s (e ∷ h)) is lawful) (subst (λ (e : Entry). Follows s (e ∷ h) c.args.self.now.ledger) is follows)
+      law = λ s rest h lawful follows on stood.
+          subst (λ (e : Entry). Stands s rest (e ∷ h) c.take_count.new.self) (sym is)
+          (c.take_count.ensures s rest h count (subst (λ (e : Entry). Lawful s (e ∷ h)) is lawful) (subst (λ (e : Entry). Follows s (e ∷ h) c.args.self.now.ledger) is follows)
           (subst (λ (e : Entry). Estimates s (e ∷ h) (g.E.Estimator.meaning c.args.estimator.now)) is on) stood);
     }
+
+pub returns-in-Enrolled-clause-law : goal.returns-in-Enrolled-clause-law
+returns-in-Enrolled-clause-law g c = λ s rest h lawful follows on stood.
+    let is = c.in-Enrolled.is in
+    subst (λ (e : Entry). Stands s rest (e ∷ h) c.start_point.new.self) (sym is)
+    (c.start_point.ensures s rest h (subst (λ (e : Entry). Lawful s (e ∷ h)) is lawful) (subst (λ (e : Entry). Follows s (e ∷ h) c.args.self.now.ledger) is follows)
+    (subst (λ (e : Entry). Estimates s (e ∷ h) (g.E.Estimator.meaning c.args.estimator.now)) is on) stood)
+
+pub returns-in-ReadingTaken-clause-law : goal.returns-in-ReadingTaken-clause-law
+returns-in-ReadingTaken-clause-law g c = λ s rest h lawful follows on stood.
+    let is = c.in-ReadingTaken.is in
+    subst (λ (e : Entry). Stands s rest (e ∷ h) c.take_reading.new.self) (sym is)
+    (c.take_reading.ensures s rest h (subst (λ (e : Entry). Lawful s (e ∷ h)) is lawful) (subst (λ (e : Entry). Follows s (e ∷ h) c.args.self.now.ledger) is follows)
+    (subst (λ (e : Entry). Estimates s (e ∷ h) (g.E.Estimator.meaning c.args.estimator.now)) is on) stood)

@@ -17,5 +17,5 @@ returns g c =
           let untouched = refused_holds c.serve-outcome.result _ served.refused failed in
           (untouched.1, untouched.2, same_follows untouched.0 follows);
       rest = served.rest;
-      law = λ ok. made_holds c.serve-outcome.result _ served.law ok _ _ follows;
+      law = λ ok. made_holds c.serve-outcome.result _ served.law ok _ _ _ follows;
     }

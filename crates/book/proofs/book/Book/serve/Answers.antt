@@ -15,9 +15,9 @@ loop-i-preserved g c =
           let now_kept = c.serve_one.ensures.kept left.1 in
           let kept = c.loop-i.invariant.1 left.0 in
           (now_kept.0 ∙ kept.0, now_kept.1 ∙ kept.1),
-      λ s h f.
-          let ran = c.loop-i.invariant.2 s h f in
-          ran_more _ _ c.loop-i-test.true inside ran (c.serve_one.ensures.law s _ ran.follows),
+      λ s rest h f.
+          let ran = c.loop-i.invariant.2 s rest h f in
+          ran_more _ _ c.loop-i-test.true inside ran (c.serve_one.ensures.law s rest _ ran.follows),
     )
 
 pub returns : goal.returns
@@ -28,5 +28,5 @@ returns g c =
       refused = tt;
       rest = c.loop-i.invariant.0;
       kept = λ passes _. c.loop-i.invariant.1 (subst (λ (n : ℕ). T (list_all leaves (take n c.loop-i.answers))) (sym all) passes);
-      law = λ s h f. ran_all f.lawful all (c.loop-i.invariant.2 s h f);
+      law = λ s rest h f. ran_all f.lawful all (c.loop-i.invariant.2 s rest h f);
     }

@@ -1,4 +1,4 @@
-use Rattle.std.proofs.Common.{sym, refl, ◌∙◌, subst}
+use Rattle.std.proofs.Common.{sym, refl, ◌∙◌, subst, rules}
 use Rattle.histories.specs.Calls.{refusal}
 use Rattle.histories.specs.History.{History}
 use Rattle.histories.specs.declared.call.Call.TheVariants.{AskDay, AskFigure, AskRetailer}
@@ -9,32 +9,57 @@ use Rattle.book.proofs.book.Book.serve_one.Goals as goal
 pub returns-in-AskFigure : goal.returns-in-AskFigure
 returns-in-AskFigure g c = record {
   kept = λ _. (refl, refl);
-  law = λ s h f.
+  law = λ s rest h f.
       let call = AskFigure c.in-AskFigure.point c.in-AskFigure.date in
       rw c.in-AskFigure.is (
-        c.figure_answered.ensures ∙ (c.ask_figure.ensures (g.E.Estimator.meaning c.args.estimator.now) (g.E.Weather.under c.args.estimator.now)).law s h f,
-        subst (λ (x : History). Follows s x c.args.self.now (g.E.Estimator.meaning c.args.estimator.now) (g.E.Weather.under c.args.estimator.now)) (sym (asked_stays h (refusal s h call))) f,
+        c.figure_answered.ensures ∙ (c.ask_figure.ensures (g.E.Estimator.meaning c.args.estimator.now) (g.E.Weather.under c.args.estimator.now)).law s rest h f,
+        subst (λ (x : History). Follows s rest x c.args.self.now (g.E.Estimator.meaning c.args.estimator.now) (g.E.Weather.under c.args.estimator.now)) (sym (asked_stays h (refusal s h call))) f,
       );
 }
 
 pub returns-in-AskDay : goal.returns-in-AskDay
 returns-in-AskDay g c = record {
   kept = λ _. (refl, refl);
-  law = λ s h f.
+  law = λ s rest h f.
       let call = AskDay c.in-AskDay.date in
       rw c.in-AskDay.is (
-        c.day_answered.ensures ∙ c.ask_day.ensures.law s h f,
-        subst (λ (x : History). Follows s x c.args.self.now (g.E.Estimator.meaning c.args.estimator.now) (g.E.Weather.under c.args.estimator.now)) (sym (asked_stays h (refusal s h call))) f,
+        c.day_answered.ensures ∙ c.ask_day.ensures.law s rest h f,
+        subst (λ (x : History). Follows s rest x c.args.self.now (g.E.Estimator.meaning c.args.estimator.now) (g.E.Weather.under c.args.estimator.now)) (sym (asked_stays h (refusal s h call))) f,
       );
 }
 
 pub returns-in-AskRetailer : goal.returns-in-AskRetailer
 returns-in-AskRetailer g c = record {
   kept = λ _. (refl, refl);
-  law = λ s h f.
+  law = λ s rest h f.
       let call = AskRetailer c.in-AskRetailer.retailer c.in-AskRetailer.date in
       rw c.in-AskRetailer.is (
-        c.sum_answered.ensures ∙ (c.ask_retailer.ensures (g.E.Estimator.meaning c.args.estimator.now) (g.E.Weather.under c.args.estimator.now)).law s h f,
-        subst (λ (x : History). Follows s x c.args.self.now (g.E.Estimator.meaning c.args.estimator.now) (g.E.Weather.under c.args.estimator.now)) (sym (asked_stays h (refusal s h call))) f,
+        c.sum_answered.ensures ∙ (c.ask_retailer.ensures (g.E.Estimator.meaning c.args.estimator.now) (g.E.Weather.under c.args.estimator.now)).law s rest h f,
+        subst (λ (x : History). Follows s rest x c.args.self.now (g.E.Estimator.meaning c.args.estimator.now) (g.E.Weather.under c.args.estimator.now)) (sym (asked_stays h (refusal s h call))) f,
       );
 }
+
+pub returns-in-Enrol-clause-law : goal.returns-in-Enrol-clause-law
+returns-in-Enrol-clause-law g c = λ s rest h f.
+    let done = c.enrol.ensures.law.law s rest h f in
+    rw c.in-Enrol.is (c.entered.ensures.reply ∙ done.0, done.1)
+
+pub returns-in-EnterGate-clause-law : goal.returns-in-EnterGate-clause-law
+returns-in-EnterGate-clause-law g c = λ s rest h f.
+    let done = c.enter_gate.ensures.law.law s rest h f in
+    rw c.in-EnterGate.is (c.entered-in-EnterGate.ensures.reply ∙ done.0, done.1)
+
+pub returns-in-EnterInterval-clause-law : goal.returns-in-EnterInterval-clause-law
+returns-in-EnterInterval-clause-law g c = λ s rest h f.
+    let done = c.enter_interval.ensures.law.law s rest h f in
+    rw c.in-EnterInterval.is (c.entered-in-EnterInterval.ensures.reply ∙ done.0, done.1)
+
+pub returns-in-EnterDegreeDays-clause-law : goal.returns-in-EnterDegreeDays-clause-law
+returns-in-EnterDegreeDays-clause-law g c = λ s rest h f.
+    let done = c.enter_degree_days.ensures.law.law s rest h f in
+    rw c.in-EnterDegreeDays.is (c.entered-in-EnterDegreeDays.ensures.reply ∙ done.0, done.1)
+
+pub returns-in-EnterReading-clause-law : goal.returns-in-EnterReading-clause-law
+returns-in-EnterReading-clause-law g c = λ s rest h f.
+    let done = c.enter_reading.ensures.law.law s rest h f in
+    rw c.in-EnterReading.is (search (rules, done, c.entered-in-EnterReading.ensures.reply))

@@ -17,10 +17,10 @@ returns-in_err-entry g c =
     rw (p.1, p.2) record {
       refused = λ b left. record { same = same_book b book (subst (λ (r : Result Entry Refusal). IfErr r (λ _. book.ledger ≡ b.ledger)) c.in_err-entry.was left.ledger) left.sheet };
       law = λ call b answered. record {
-        law = λ s h f.
+        law = λ s rest h f.
             let told = subst (λ (r : Result Entry Refusal). Answered call b.ledger r book.ledger) c.in_err-entry.was answered.answered s h f.entries in (
               refusal_answers s h call e told.0.0 told.0.1,
-              refused_follows s h call (number_of e) book _ _ told.0.0 (ledger_follows f told.1 answered.sheet),
+              refused_follows s h call (number_of e) book _ _ told.0.0 (ledger_follows f told.1 answered.beyond answered.sheet),
             );
       };
     }
@@ -29,12 +29,12 @@ pub returns : goal.returns
 returns g c = record {
   refused = λ b left. record { same = tt };
   law = λ call b answered. record {
-    law = λ s h f.
+    law = λ s rest h f.
         let book = c.args.self.now in
         let entry = c.in_ok-entry.entry in
         let told = subst (λ (r : Result Entry Refusal). Answered call b.ledger r book.ledger) c.in_ok-entry.was answered.answered s h f.entries in
-        let done = accepted_entry s h call entry book.ledger b c.follow.new.self _ _ f told.0 told.1 c.follow.ensures.ledger (no_count_entry s call answered.no_count)
-        (λ lawful entries on stood. c.follow.ensures.law s h lawful entries on (subst (λ (x : Sheet). Stands s h x) (sym answered.sheet) stood)) in
+        let done = accepted_entry s h call entry book.ledger b c.follow.new.self _ _ f told.0 told.1 answered.beyond c.follow.ensures.ledger (no_count_entry s call answered.no_count)
+        (λ lawful entries on stood. c.follow.ensures.law s _ h lawful entries on (subst (λ (x : Sheet). Stands s rest.sheet h x) (sym answered.sheet) stood)) in
         (entry_granted s h call entry told.0.1 ∙ done.0, done.1);
   };
 }
