@@ -1,25 +1,29 @@
 // apportion ENERGY LOAD LOAD ..: one metered energy spread over the loads of consecutive days, as a table.
 #![tactic(auto)]
 
-use anyhow::anyhow;
 use apportionment::{
     DayLine, Fault, LARGEST_ENERGY, LARGEST_LOAD, MOST_DAYS, read_request, spread,
 };
 use std::alloc::Global;
+use std::process::ExitCode;
 use std::{env, io};
 use words::WordFault;
 
-fn main(rt: HostRuntime) -> anyhow::Result<()> {
+fn main(rt: HostRuntime) -> anyhow::Result<ExitCode> {
     let heap = rt.alloc();
     let words: Vec<String> = env::args(&rt)?.skip(1).collect(heap)?;
     if words.is_empty() {
-        return Ok(print_usage(&rt)?);
+        print_usage(&rt)?;
+        return Ok(ExitCode::SUCCESS);
     }
     match table(heap, words.as_slice()) {
-        Ok(lines) => Ok(print_table(&rt, lines.as_slice())?),
+        Ok(lines) => {
+            print_table(&rt, lines.as_slice())?;
+            Ok(ExitCode::SUCCESS)
+        }
         Err(fault) => {
             print_fault(&rt, fault, words.as_slice())?;
-            Err(anyhow!("no table"))
+            Ok(ExitCode::FAILURE)
         }
     }
 }

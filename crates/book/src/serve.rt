@@ -16,41 +16,41 @@ use refusals::Refusal;
 use sheet::DayFigures;
 
 // The answer to an entry.
-fn entered(answer: Result<(), Refusal>) -> Answer
-    ensures reply { reply result ≡ told (λ _. accepted) answer }
-    ensures leaves { leaves result ≡ true → is_ok answer ≡ false }
+fn entered(outcome: Result<(), Refusal>) -> Answer
+    ensures reply { reply result ≡ told (λ _. accepted) outcome }
+    ensures leaves { leaves result ≡ true → is_ok outcome ≡ false }
 {
-    match answer {
+    match outcome {
         Ok(()) => Answer::Accepted,
         Err(refusal) => Answer::Refused(refusal),
     }
 }
 
 // The answer to the question for a figure.
-fn figure_answered(answer: Result<u64, Refusal>) -> Answer
-    ensures { reply result ≡ told figure_is answer }
+fn figure_answered(outcome: Result<u64, Refusal>) -> Answer
+    ensures { reply result ≡ told figure_is outcome }
 {
-    match answer {
+    match outcome {
         Ok(figure) => Answer::Figure(figure),
         Err(refusal) => Answer::Refused(refusal),
     }
 }
 
 // The answer to the question for a day.
-fn day_answered(answer: Result<DayFigures, Refusal>) -> Answer
-    ensures { reply result ≡ told day_is answer }
+fn day_answered(outcome: Result<DayFigures, Refusal>) -> Answer
+    ensures { reply result ≡ told day_is outcome }
 {
-    match answer {
+    match outcome {
         Ok(figures) => Answer::Day(figures),
         Err(refusal) => Answer::Refused(refusal),
     }
 }
 
 // The answer to the question for a retailer's sum.
-fn sum_answered(answer: Result<u64, Refusal>) -> Answer
-    ensures { reply result ≡ told sum_is answer }
+fn sum_answered(outcome: Result<u64, Refusal>) -> Answer
+    ensures { reply result ≡ told sum_is outcome }
 {
-    match answer {
+    match outcome {
         Ok(sum) => Answer::RetailerSum(sum),
         Err(refusal) => Answer::Refused(refusal),
     }

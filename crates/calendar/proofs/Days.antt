@@ -16,9 +16,9 @@ pub record InCalendar (y m d : ℕ) : Type 0 where
   pub day_short : d ≤ 31
 
 -- a test that passes, as a type and as an equation
-pub true_from_T : (b : Bool) → T b → b ≡ true
-true_from_T true t = refl
-true_from_T false t = absurd t
+pub true_from_t : (b : Bool) → T b → b ≡ true
+true_from_t true t = refl
+true_from_t false t = absurd t
 
 T_from_true : (b : Bool) → b ≡ true → T b
 T_from_true b e = rw e tt
@@ -27,7 +27,7 @@ T_from_true b e = rw e tt
 pub in_calendar : (y m d : ℕ) → T (exists y m d) → InCalendar y m d
 unfolding exists
 in_calendar y m d t =
-    let here : exists y m d ≡ true = true_from_T (exists y m d) t in
+    let here : exists y m d ≡ true = true_from_t (exists y m d) t in
     let month_low : 1 ≤ m = grind (arith, nat_tests) in
     let month_high : m ≤ 12 = grind (arith, nat_tests) in
     let day_high : d ≤ month_length y m = grind (arith, nat_tests) in

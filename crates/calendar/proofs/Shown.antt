@@ -5,7 +5,7 @@ use Rattle.calendar.specs.Digits.{year_shown, month_shown, day_shown, is_date, d
 use Rattle.calendar.specs.Dates.{digits_of, number_of}
 use Rattle.calendar.specs.declared.date.Date.{Date}
 use Rattle.calendar.proofs.Answered.{accepted}
-use Rattle.calendar.proofs.Days.{true_from_T, InCalendar, in_calendar, dated}
+use Rattle.calendar.proofs.Days.{true_from_t, InCalendar, in_calendar, dated}
 
 -- a date's digits show its year, month and day
 pub year_of_digits : (d : Date) → year_shown (digits_of d) ≡ d.year
@@ -28,7 +28,7 @@ number_of_digits d = rw (year_of_digits d, month_of_digits d, day_of_digits d)
 
 -- a date with these digits is the answer to a call that asks for it
 pub found_by_digits : (d : Date) (n : ℕ) → digits_of d ≡ n → AnswersBy (Ok d) (is_date n) (λ x. digits_of x ≡ n) 4
-found_by_digits d n e = accepted (λ x. digits_of x ≡ n) 4 e (true_from_T (is_date n) (rw (sym e) (digits_are_date d)))
+found_by_digits d n e = accepted (λ x. digits_of x ≡ n) 4 e (true_from_t (is_date n) (rw (sym e) (digits_are_date d)))
 
 -- a number equal to a date's digits is that date, and the day of its number
 pub numbered_by : (d : Date) (n k : ℕ) → n ≡ digits_of d → number_of d ≡ k → Numbered n k

@@ -3,13 +3,13 @@
 
 mod shown;
 
-use anyhow::anyhow;
 use by_weather::{ByWeather, Factors};
 use degree_days::{Observations, Terms};
 use estimators::{Cap, FallBack, Weather};
 use hot_water::{HotWater, Usage};
 use refusals::Refusal;
 use shown::{AnswerShown, TermShown};
+use std::process::ExitCode;
 use std::{env, io};
 use weather_day::{Answer, Word, reckon};
 
@@ -34,16 +34,16 @@ const FLOW: u64 = 40;
 // A weather estimate that falls back on hot water, with a cap over both.
 type Sampled = Cap<FallBack<ByWeather, HotWater>>;
 
-fn main(rt: HostRuntime) -> anyhow::Result<()> {
+fn main(rt: HostRuntime) -> anyhow::Result<ExitCode> {
     let words: Vec<String> = env::args(&rt)?.skip(1).collect(rt.alloc())?;
     let count = words.len();
     if count == 0 {
         explain(&rt)?;
-        return Ok(());
+        return Ok(ExitCode::SUCCESS);
     }
     if count != WORDS {
         eprintln!(rt; "degreedays: {WORDS} words are wanted, and there are {count}")?;
-        return Err(anyhow!("not so many words"));
+        return Ok(ExitCode::FAILURE);
     }
     let date = whole(&words, 0).unwrap_or(0);
     match reckon(date, &observed(&words)) {
@@ -55,7 +55,7 @@ fn main(rt: HostRuntime) -> anyhow::Result<()> {
         }
         Err(word) => {
             fault(&rt, &words, word)?;
-            Err(anyhow!("beyond its limits"))
+            Ok(ExitCode::FAILURE)
         }
     }
 }
@@ -132,9 +132,9 @@ fn show_count(rt: &HostRuntime, terms: &Terms, count: u32) -> io::Result<()> {
 }
 
 // What the sample points are given before and after the count is entered.
-fn show_samples(rt: &HostRuntime, date: u32, count: u32) -> anyhow::Result<()> {
+fn show_samples(rt: &HostRuntime, date: u32, count: u32) -> anyhow::Result<ExitCode> {
     let Ok(mut estimator) = sample_estimator(date) else {
-        return Err(anyhow!("no sample points"));
+        return Ok(ExitCode::FAILURE);
     };
     let before = [
         Answer::of(&estimator, 1, 1),
@@ -142,14 +142,14 @@ fn show_samples(rt: &HostRuntime, date: u32, count: u32) -> anyhow::Result<()> {
         Answer::of(&estimator, 3, 1),
     ];
     if estimator.enter(1, count).is_err() {
-        return Err(anyhow!("no such count"));
+        return Ok(ExitCode::FAILURE);
     }
     for point in 1..4 {
         let old = AnswerShown(before[point as usize - 1]);
         let new = AnswerShown(Answer::of(&estimator, point, 1));
         println!(rt; "point {point}: {old} before, {new} after")?;
     }
-    Ok(())
+    Ok(ExitCode::SUCCESS)
 }
 
 // Point 1 has factors, point 2 factors, hot water and a greatest daily flow, point 3 hot water.

@@ -28,10 +28,10 @@ abbrev pub RangedUnder : (ℕ → Meaning) → Type 0
 RangedUnder u = (count point day : ℕ) → (point_within point && weather_within day count) ≡ false → u count point day ≡ None
 
 -- a count entered for a day: that day's figures are those under the count, all other days stand, and so does every figure under weather
-pub record Entered (day count : ℕ) (old new : Meaning) (old_under New_under : ℕ → Meaning) : Type 0 where
+pub record Entered (day count : ℕ) (old new : Meaning) (old_under new_under : ℕ → Meaning) : Type 0 where
   pub here : (point : ℕ) → new point day ≡ old_under count point day
   pub elsewhere : (point other : ℕ) → (other ≢ day) → new point other ≡ old point other
-  pub stands : (e point other : ℕ) → New_under e point other ≡ old_under e point other
+  pub stands : (e point other : ℕ) → new_under e point other ≡ old_under e point other
 
 -- the first estimator's figure where it has one, else the second's
 abbrev pub first_of : Meaning → Meaning → Meaning

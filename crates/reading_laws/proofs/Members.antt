@@ -145,14 +145,14 @@ count_apart p d (r ∷ rs) apart =
     (cases_Bool (covers r p d))
 
 -- the same by places of the list
-pub getD_among : (rs : List Reading) (i : ℕ) (d : Reading) → i < length rs → Among (get_or rs i d) rs
-getD_among [] i d h = absurd (not-suc-le-zero h)
-getD_among (r ∷ rs) zero d h = inl refl
-getD_among (r ∷ rs) (suc i) d h = inr (getD_among rs i d (le_of_suc-le-suc h))
+pub get_or_among : (rs : List Reading) (i : ℕ) (d : Reading) → i < length rs → Among (get_or rs i d) rs
+get_or_among [] i d h = absurd (not-suc-le-zero h)
+get_or_among (r ∷ rs) zero d h = inl refl
+get_or_among (r ∷ rs) (suc i) d h = inr (get_or_among rs i d (le_of_suc-le-suc h))
 
-pub among_getD : (r : Reading) (rs : List Reading) → Among r rs → (i : ℕ) × (i < length rs) × ((d : Reading) → get_or rs i d ≡ r)
-among_getD r [] a = absurd a
-among_getD r (o ∷ os) (inl same) = (0, omega arith, λ d. same)
-among_getD r (o ∷ os) (inr later) =
-    let found = among_getD r os later in
+pub among_get_or : (r : Reading) (rs : List Reading) → Among r rs → (i : ℕ) × (i < length rs) × ((d : Reading) → get_or rs i d ≡ r)
+among_get_or r [] a = absurd a
+among_get_or r (o ∷ os) (inl same) = (0, omega arith, λ d. same)
+among_get_or r (o ∷ os) (inr later) =
+    let found = among_get_or r os later in
     (suc found.0, omega (arith, found.1), found.2)

@@ -3,7 +3,7 @@ use Rattle.std.proofs.Common.{◌≡◌, ℕ, ◌+◌, ◌-◌, ◌*◌, ◌/◌
 use Rattle.std.proofs.lemmas.List.{length-map, length-take-le, take_all}
 use Rattle.std.proofs.lemmas.Bool.{leb-true, ltb-true, and_parts}
 use Rattle.std.proofs.lemmas.Bool.Decides.{nat_tests}
-use Rattle.sharing.specs.Laws.{part_none, part_more, length_shares, getD_shares}
+use Rattle.sharing.specs.Laws.{part_none, part_more, length_shares, slice_index_shares}
 use Rattle.sharing.specs.Rows.{handed}
 use Rattle.sharing.specs.Limits.{largest_product}
 use Rattle.sharing.specs.Sharing.{can_share, running, part, share_at, shares}
@@ -92,7 +92,7 @@ module _ {R : Type 0} {w : R → ℕ} {takes : R → ℕ → R} {c : ℕ} {rows 
     module _ {fallen' : ℕ} {row' : R} (fallen_next : fallen' ≡ c * run' / total) (row_is : row' ≡ takes (get_or now i d) (fallen' - fallen)) where
       share_is : fallen' - fallen ≡ get_or (shares c ws) i 0
       unfolding share_at
-      share_is = omega (arith, fallen_next, turn_falls, t.fallen_is, getD_shares c ws i (rw length-map within))
+      share_is = omega (arith, fallen_next, turn_falls, t.fallen_is, slice_index_shares c ws i (rw length-map within))
 
       pub taken_more : Taken w takes c rows (i + 1) (set now i row') run' fallen'
       taken_more =

@@ -48,9 +48,9 @@ unfolding shares
 length_shares c ws = length-map-range_with_len (share_at c ws) 0 (length ws)
 
 -- the share at place k is share k
-pub getD_shares : (c : ℕ) (ws : List ℕ) (k : ℕ) → k < length ws → slice_index (shares c ws) k ≡ share_at c ws k
+pub slice_index_shares : (c : ℕ) (ws : List ℕ) (k : ℕ) → k < length ws → slice_index (shares c ws) k ≡ share_at c ws k
 unfolding shares
-getD_shares c ws k h = get_or-map-range_with_len (share_at c ws) 0 (length ws) k k 0 h (omega arith)
+slice_index_shares c ws k h = get_or-map-range_with_len (share_at c ws) 0 (length ws) k k 0 h (omega arith)
 
 -- the first k shares add up to what falls to the first k weights
 front_sum : (c : ℕ) (ws : List ℕ) (k : ℕ) → 0 < sum ws → k ≤ length ws → sum (map (share_at c ws) (range_with_len 0 k)) ≡ part c (sum ws) (running ws k)
@@ -76,7 +76,7 @@ sum_shares c ws pos =
 share_steps : (c : ℕ) (ws : List ℕ) (k : ℕ) → k < length ws → slice_index (shares c ws) k ≡ part c (sum ws) (running ws k + slice_index ws k) - part c (sum ws) (running ws k)
 unfolding share_at
 share_steps c ws k h =
-    getD_shares c ws k h ∙ ap (λ s. part c (sum ws) s - part c (sum ws) (running ws k)) (sum_by_more (λ x. x) ws k 0 h)
+    slice_index_shares c ws k h ∙ ap (λ s. part c (sum ws) s - part c (sum ws) (running ws k)) (sum_by_more (λ x. x) ws k 0 h)
 
 -- past the last weight there is no share
 share_past : (c : ℕ) (ws : List ℕ) (k : ℕ) → length ws ≤ k → slice_index (shares c ws) k ≡ 0
