@@ -1,6 +1,5 @@
 -- What an entry leaves of the interval places beyond the book's days. Assumes nothing.
 use Rattle.std.proofs.Common.{◌≡◌, ℕ, ◌+◌, ◌-◌, ◌*◌, ◌<◌, ◌≤◌, drop, vec_items, ◌∙◌, arith, drop-set-lt}
-use Rattle.std.specs.declared.alloc.Global.{Global}
 use Rattle.ledger.specs.Beyond.{beyond_days}
 use Rattle.ledger.specs.Changes.{WithInterval}
 use Rattle.ledger.specs.declared.state.Ledger.{Ledger}

@@ -1,5 +1,5 @@
 -- A ledger that follows a history follows it with the entry that it has taken. Assumes nothing.
-use Rattle.std.proofs.Common.{◌≡◌, ℕ, ◌+◌, ◌-◌, ◌*◌, ◌<◌, ◌≤◌, Bool, true, false, cond, not, ◌&&◌, eqb, ltb, leb, List, ◌∷◌, length, Some, None, vec_items, count_by, filter, sym, ap, ◌∙◌, ⊎_elim, add_comm, arith, drop-set-lt}
+use Rattle.std.proofs.Common.{◌≡◌, ℕ, ◌+◌, ◌-◌, ◌*◌, ◌<◌, ◌≤◌, Bool, true, false, cond, not, ◌&&◌, eqb, ltb, leb, List, ◌∷◌, length, Some, None, vec_items, count_by, filter, sym, ap, ◌∙◌, ⊎_elim, add_comm, arith}
 use Rattle.std.proofs.lemmas.Bool.{and_cases, and_from, and_parts, eqb-true, eqb-false, le-leb, leb-true, lt-ltb}
 use Rattle.histories.specs.Calls.{between, meters}
 use Rattle.histories.specs.History.{History, Setting, enrolment_of, gate_of, interval_in, latest}

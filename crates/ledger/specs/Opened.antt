@@ -1,5 +1,5 @@
 -- When a ledger opens, and what it has been told then: nothing.
-use Rattle.std.specs.Prelude.{◌≡◌, ℕ, ◌+◌, ◌*◌, Bool, not, ◌&&◌, ◌||◌, List, [], ◌∷◌, drop, Some, None, Ok, Err, vec_items, vec_len, Option, Result, Vec, nat_le, nat_lt}
+use Rattle.std.specs.Prelude.{◌≡◌, ℕ, ◌+◌, ◌*◌, Bool, not, ◌&&◌, ◌||◌, [], ◌∷◌, drop, Some, None, Ok, Err, vec_items, vec_len, Option, Result, Vec, nat_le, nat_lt}
 use Rattle.std.specs.declared.alloc.Global.{Global}
 use Rattle.calendar.specs.Digits.{day_number_of, is_date}
 use Rattle.calendar.specs.Gregorian.{days_in_all}

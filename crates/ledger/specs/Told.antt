@@ -1,5 +1,5 @@
 -- What a ledger says, and when it says what a history has told.
-use Rattle.std.specs.Prelude.{◌≡◌, ℕ, ◌+◌, ◌-◌, ◌*◌, Bool, cond, ◌&&◌, ◌∷◌, map, drop, Some, None, Ok, Err, vec_items, vec_len, sum, count_by, Option, Result, nat_lt, slice_index, slice_index_or}
+use Rattle.std.specs.Prelude.{◌≡◌, ℕ, ◌+◌, ◌-◌, ◌*◌, Bool, cond, ◌&&◌, ◌∷◌, map, Some, None, Ok, Err, vec_items, vec_len, sum, count_by, Option, Result, nat_lt, slice_index, slice_index_or}
 use Rattle.std.specs.List.{range_with_len}
 use Rattle.refusals.specs.Numbers.{number_of, day_named}
 use Rattle.refusals.specs.declared.refusal.Refusal.{Refusal}
