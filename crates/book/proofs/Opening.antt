@@ -1,5 +1,5 @@
 -- What opens, as it is taken out of its answer. Assumes nothing.
-use Rattle.std.proofs.Common.{◌≡◌, ℕ, ◌*◌, true, false, List, [], drop, is_ok, IfOk, IfErr, Ok, Err, vec_items, vec_len, Option, Result, Vec, ap, ◌∙◌, subst, MatchResult}
+use Rattle.std.proofs.Common.{◌≡◌, ℕ, ◌*◌, true, false, [], drop, is_ok, IfOk, IfErr, Ok, Err, vec_items, vec_len, Option, Result, Vec, ap, ◌∙◌, subst, MatchResult}
 use Rattle.std.proofs.lemmas.Bool.{false≢true, true≢false}
 use Rattle.std.specs.declared.alloc.Global.{Global}
 use Rattle.estimators.specs.Meaning.{Meaning}
