@@ -1,5 +1,5 @@
 -- One call: its answer, and what is followed after it. Assumes nothing.
-use Rattle.std.proofs.Common.{◌≡◌, ℕ, false, ◌∷◌, Some, None, Option, sym, refl, ap, ◌∙◌, subst, arith}
+use Rattle.std.proofs.Common.{◌≡◌, ℕ, false, ◌∷◌, Some, None, Option, Result, sym, refl, ap, ◌∙◌, subst, arith}
 use Rattle.std.proofs.lemmas.Bool.{true≢false}
 use Rattle.std.specs.Option.{option_or}
 use Rattle.estimators.specs.Meaning.{Meaning}
@@ -15,8 +15,8 @@ use Rattle.ledger.specs.declared.state.Ledger.{Ledger}
 use Rattle.refusals.specs.Numbers.{number_of, day_named}
 use Rattle.refusals.specs.declared.refusal.Refusal.{Refusal}
 use Rattle.sheet.specs.Told.{Estimates, Stands, Told}
-use Rattle.book.specs.Follows.{Beyond, Follows}
-use Rattle.book.specs.Replies.{accepted, after, answer, granted, is_count, lengthened, refused, unless_refused}
+use Rattle.book.specs.Follows.{Beyond, Entered, Follows}
+use Rattle.book.specs.Replies.{Reply, accepted, after, answer, granted, is_count, lengthened, refused, told, unless_refused}
 use Rattle.book.specs.declared.book.Book.{Book}
 
 module _ (s : Setting) (h : History) (c : Call) where
@@ -125,3 +125,8 @@ ledger_follows {s} {rest} {h} f entries beyond sheets = record {
   estimates = f.estimates;
   weather = f.weather;
 }
+
+-- A call that an entry answers is answered as the law says, and what it leaves is followed.
+pub entry_served : {c : Call} {r : Result (Unit {0}) Refusal} {b b' : Book} {m m' : Meaning} {u u' : ℕ → Meaning} (s : Setting) (rest : Beyond) (h : History) (a : Reply)
+    → Entered c r b m u b' m' u' → a ≡ told (λ _. accepted) r → Follows s rest h b m u → (a ≡ answer s h c) × Follows s rest (after s h c) b' m' u'
+entry_served s rest h a entered says f = let done = entered.law s rest h f in (says ∙ done.0, done.1)

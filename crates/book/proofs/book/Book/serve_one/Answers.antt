@@ -1,9 +1,10 @@
 use Rattle.std.proofs.Common.{sym, refl, ◌∙◌, subst, rules}
 use Rattle.histories.specs.Calls.{refusal}
 use Rattle.histories.specs.History.{History}
-use Rattle.histories.specs.declared.call.Call.TheVariants.{AskDay, AskFigure, AskRetailer}
+use Rattle.histories.specs.declared.call.Call.TheVariants.{AskDay, AskFigure, AskRetailer, Enrol, EnterDegreeDays, EnterGate, EnterInterval}
 use Rattle.book.specs.Follows.{Follows}
 use Rattle.book.proofs.Moment.{asked_stays}
+use Rattle.book.proofs.Steps.{entry_served}
 use Rattle.book.proofs.book.Book.serve_one.Goals as goal
 
 pub returns-in-AskFigure : goal.returns-in-AskFigure
@@ -41,23 +42,19 @@ returns-in-AskRetailer g c = record {
 
 pub returns-in-Enrol-clause-law : goal.returns-in-Enrol-clause-law
 returns-in-Enrol-clause-law g c = λ s rest h f.
-    let done = c.enrol.ensures.law.law s rest h f in
-    rw c.in-Enrol.is (c.entered.ensures.reply ∙ done.0, done.1)
+    rw c.in-Enrol.is (entry_served {c = Enrol c.in-Enrol.point c.in-Enrol.retailer c.in-Enrol.start} s rest h _ (search rules) c.entered.ensures.reply f)
 
 pub returns-in-EnterGate-clause-law : goal.returns-in-EnterGate-clause-law
 returns-in-EnterGate-clause-law g c = λ s rest h f.
-    let done = c.enter_gate.ensures.law.law s rest h f in
-    rw c.in-EnterGate.is (c.entered-in-EnterGate.ensures.reply ∙ done.0, done.1)
+    rw c.in-EnterGate.is (entry_served {c = EnterGate c.in-EnterGate.date c.in-EnterGate.energy_in c.in-EnterGate.energy_out} s rest h _ (search rules) c.entered-in-EnterGate.ensures.reply f)
 
 pub returns-in-EnterInterval-clause-law : goal.returns-in-EnterInterval-clause-law
 returns-in-EnterInterval-clause-law g c = λ s rest h f.
-    let done = c.enter_interval.ensures.law.law s rest h f in
-    rw c.in-EnterInterval.is (c.entered-in-EnterInterval.ensures.reply ∙ done.0, done.1)
+    rw c.in-EnterInterval.is (entry_served {c = EnterInterval c.in-EnterInterval.date c.in-EnterInterval.meter c.in-EnterInterval.energy} s rest h _ (search rules) c.entered-in-EnterInterval.ensures.reply f)
 
 pub returns-in-EnterDegreeDays-clause-law : goal.returns-in-EnterDegreeDays-clause-law
 returns-in-EnterDegreeDays-clause-law g c = λ s rest h f.
-    let done = c.enter_degree_days.ensures.law.law s rest h f in
-    rw c.in-EnterDegreeDays.is (c.entered-in-EnterDegreeDays.ensures.reply ∙ done.0, done.1)
+    rw c.in-EnterDegreeDays.is (entry_served {c = EnterDegreeDays c.in-EnterDegreeDays.date c.in-EnterDegreeDays.count} s rest h _ (search rules) c.entered-in-EnterDegreeDays.ensures.reply f)
 
 pub returns-in-EnterReading-clause-law : goal.returns-in-EnterReading-clause-law
 returns-in-EnterReading-clause-law g c = λ s rest h f.
