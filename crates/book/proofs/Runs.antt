@@ -62,8 +62,8 @@ ran_all {s} {rest} {h} {cs} {rs} {i} {b} {m} {u} lawful e ran =
     record {
       answered = ap (λ n. map reply (take n rs)) (sym e) ∙ ran.answered ∙ ap (answers_of s h) all;
       follows = subst (λ x. Follows s rest (history_after s h x) b m u) all ran.follows;
-      moments = λ before rest split. moment s (history_after s h before) (lawful_after s h before lawful);
-      moves = λ before call rest split. moves s (history_after s h before) call (lawful_after s h before lawful);
+      moments = λ before later split. moment s (history_after s h before) (lawful_after s h before lawful);
+      moves = λ before call later split. moves s (history_after s h before) call (lawful_after s h before lawful);
     }
 
 -- Answers that leave all as it was.
