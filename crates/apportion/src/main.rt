@@ -48,10 +48,12 @@ fn print_table(rt: &HostRuntime, lines: &[DayLine]) -> io::Result<()> {
     let mut total = 0u64;
     for (i, line) in lines.iter().enumerate() {
         let day = i + 1;
-        let load = line.load;
-        let weight = line.weight;
-        let running = line.running;
-        let share = line.share;
+        let DayLine {
+            load,
+            weight,
+            running,
+            share,
+        } = *line;
         println!(rt; "{day:>4} {load:>11} {weight:>11} {running:>13} {share:>11}")?;
         total = total.saturating_add(share);
     }
@@ -60,15 +62,8 @@ fn print_table(rt: &HostRuntime, lines: &[DayLine]) -> io::Result<()> {
 
 fn print_fault(rt: &HostRuntime, fault: Fault, words: &[String]) -> io::Result<()> {
     match fault {
-        Fault::TooFewWords => eprintln!(rt;
-            "apportion: too few words: an energy and the load of one day at least"
-        ),
-        Fault::TooManyWords => eprintln!(rt;
-            "apportion: too many words: the loads of {MOST_DAYS} days at most"
-        ),
         Fault::Word { place, why } => print_word_fault(rt, place, why, words),
-        Fault::Refused(_) => eprintln!(rt; "apportion: a number is beyond its limit"),
-        Fault::Memory => eprintln!(rt; "apportion: not enough memory"),
+        _ => eprintln!(rt; "apportion: {fault}"),
     }
 }
 
@@ -79,11 +74,9 @@ fn print_word_fault(
     why: WordFault,
     words: &[String],
 ) -> io::Result<()> {
-    let word = match words.get(place) {
-        Some(word) => word.as_str(),
-        None => "",
-    };
+    let word = words.get(place).map_or("", |word| word.as_str());
     let number = place.saturating_add(1);
+    // By its place, which is all that a request tells of a word at fault: the energy stands first.
     let (name, most) = if place == 0 {
         ("energy", LARGEST_ENERGY)
     } else {
@@ -91,14 +84,10 @@ fn print_word_fault(
     };
     match why {
         WordFault::NotANumber => {
-            eprintln!(rt;
-                "apportion: word {number}, the {name} '{word}', is no whole number of decimal digits"
-            )
+            eprintln!(rt; "apportion: word {number}, the {name} '{word}', {why}")
         }
         WordFault::BeyondLimit => {
-            eprintln!(rt;
-                "apportion: word {number}, the {name} '{word}', is beyond its limit of {most} MJ"
-            )
+            eprintln!(rt; "apportion: word {number}, the {name} '{word}', {why} of {most} MJ")
         }
     }
 }

@@ -98,30 +98,27 @@ mod tests {
         },
     ];
 
-    fn shares_of(rt: &impl Abort, lines: &[DayLine], shares: &[u64]) {
+    fn check_shares(rt: &impl Abort, lines: &[DayLine], shares: &[u64]) -> Result<(), Fail> {
         assert_eq!(rt; lines.len(), shares.len());
-        for (line, share) in lines.iter().zip(shares.iter()) {
+        for (line, share) in lines.iter().zip(shares) {
             assert_eq!(rt; line.share, *share);
         }
+        Ok(())
     }
 
     #[test]
     fn worked_rows(rt: HostRuntime) -> Result<(), Fail> {
         for case in CASES.iter() {
             let lines = spread(rt.alloc(), case.energy, case.loads)?;
-            shares_of(&rt, lines.as_slice(), case.shares);
+            check_shares(&rt, lines.as_slice(), case.shares)?;
         }
         Ok(())
     }
 
     fn refused(rt: &(impl Abort + AllocGlobal), energy: u64, loads: &[u64]) -> Result<(), Fail> {
-        match spread(rt.alloc(), energy, loads) {
-            Ok(_) => Err(Fail::new("not refused")),
-            Err(fault) => {
-                assert_eq!(rt; fault, Fault::Refused(Refusal::BeyondLimits));
-                Ok(())
-            },
-        }
+        let answer = spread(rt.alloc(), energy, loads);
+        assert_eq!(rt; answer.err(), Some(Fault::Refused(Refusal::BeyondLimits)));
+        Ok(())
     }
 
     #[test]
@@ -141,13 +138,8 @@ mod tests {
         for word in words {
             texts.push(String::from_str(heap, *word)?)?;
         }
-        match read_request(heap, texts.as_slice()) {
-            Ok(_) => Err(Fail::new("not refused")),
-            Err(found) => {
-                assert_eq!(rt; found, fault);
-                Ok(())
-            },
-        }
+        assert_eq!(rt; read_request(heap, texts.as_slice()).err(), Some(fault));
+        Ok(())
     }
 
     #[test]
@@ -205,5 +197,21 @@ mod tests {
                 why: beyond,
             },
         )
+    }
+
+    #[test]
+    fn faults_in_words(rt: HostRuntime) -> Result<(), Fail> {
+        let too_many = format!(in rt.alloc(); "{}", Fault::TooManyWords)?;
+        assert_eq!(rt;
+            too_many.as_str(),
+            "too many words: the loads of 400 days at most"
+        );
+        let fault = Fault::Word {
+            place: 2,
+            why: WordFault::BeyondLimit,
+        };
+        let word = format!(in rt.alloc(); "{fault}")?;
+        assert_eq!(rt; word.as_str(), "word 3 is beyond its limit");
+        Ok(())
     }
 }

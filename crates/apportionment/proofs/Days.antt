@@ -1,13 +1,13 @@
 -- Days weighed one after the other, and lines written one after the other. Assumes nothing.
-use Rattle.std.proofs.Common.{◌≡◌, ℕ, ◌+◌, ◌*◌, ◌<◌, ◌≤◌, true, false, ◌&&◌, leb, List, [], ◌∷◌, ◌++◌, map, length, get_or, take, Ok, Err, Decides, Result, sym, refl, ap, ◌∙◌, ⊎_elim, arith}
+use Rattle.std.proofs.Common.{◌≡◌, ℕ, ◌+◌, ◌*◌, ◌<◌, ◌≤◌, true, false, ◌&&◌, leb, List, [], ◌∷◌, ◌++◌, map, length, get_or, take, Err, Decides, Result, sym, refl, ap, ◌∙◌, ⊎_elim, arith}
 use Rattle.std.specs.List.{AllByRecursion, range_with_len}
 use Rattle.std.proofs.lemmas.List.FromFn.{map-range_with_len_more}
-use Rattle.std.proofs.ByRecursion.{All-get_or, All-more, Decides-by_and}
-use Rattle.std.proofs.lemmas.List.{take_all, map-append, map_more, get_or-map, length-map}
+use Rattle.std.proofs.ByRecursion.{All-get_or, Decides-by_and}
+use Rattle.std.proofs.lemmas.List.{take_all, get_or-map, length-map}
 use Rattle.std.proofs.lemmas.Nat.{mul-le}
 use Rattle.std.proofs.lemmas.List.Sums.{get_or-le-sum_by}
 use Rattle.std.proofs.lemmas.Bool.{leb-true, leb-false, le-leb, lt-ltb, and_from, and_parts, cases_Bool}
-use Rattle.refusals.specs.Answers.{AnswersBy, accepted_since, refused_since}
+use Rattle.refusals.specs.Answers.{AnswersBy, refused_since}
 use Rattle.refusals.specs.Numbers.{number_of}
 use Rattle.refusals.specs.declared.refusal.Refusal.{Refusal}
 use Rattle.loads.proofs.Laws.{weight_positive, weight_within}
@@ -41,18 +41,6 @@ pub record Weighed (loads : List ℕ) (i : ℕ) (days : List ReadingDay) : Type 
 -- what `ReadingDay::new` answers for weight w
 abbrev pub New : ℕ → Result ReadingDay Refusal → Type 0
 New w r = AnswersBy r (leb w largest_day_weight) (λ day. (day.weight ≡ w) × (day.share ≡ 0)) 3
-
-pub weighed_more : {loads : List ℕ} {i w : ℕ} {days : List ReadingDay} (day : ReadingDay) → i < length loads → Weighed loads i days → w ≡ weight (get_or loads i 0) → New w (Ok day) → Weighed loads (i + 1) (days ++ (day ∷ []))
-weighed_more {loads} {i} {w} {days} day in_loads before w_is new =
-    let since = accepted_since day (leb w largest_day_weight) _ 3 new in
-    let light : leb (weight (get_or loads i 0)) largest_load ≡ true = rw w_is at since.0 in
-    let pushed = map-append (λ (d : ReadingDay). d.weight) days (day ∷ []) in
-    let more = map_more weight loads i 0 in_loads in
-    record {
-      within = All-more (λ load. load ≤ largest_load) loads i 0 in_loads before.within
-          (leb-true _ _ (sym (weight_within (get_or loads i 0) largest_load (omega arith)) ∙ light));
-      weighed = cc (before.weighed, since.1.0, w_is, pushed, more);
-    }
 
 pub weighed_all : {loads : List ℕ} {i : ℕ} {days : List ReadingDay} → length loads ≤ i → Weighed loads i days → (loads_within loads ≡ true) × (weights_of days ≡ weights loads)
 weighed_all {loads} {i} past w =
@@ -118,9 +106,6 @@ sized_parts energy loads fits =
     let counts = and_parts (leb 1 (length loads)) (leb (length loads) most_days) parts.1 in
     record { small = leb-true _ _ parts.0; some = leb-true _ _ counts.0; few = leb-true _ _ counts.1 }
 
-pub few_days : (energy : ℕ) (loads : List ℕ) → sized energy loads ≡ true → length loads ≤ most_days
-few_days energy loads fits = (sized_parts energy loads fits).few
-
 -- within its limits an energy can always be shared over the weights of loads
 pub always_shared : (energy : ℕ) (loads : List ℕ) (days : List ReadingDay) → sized energy loads ≡ true → weights_of days ≡ weights loads → can_share largest_day_weight energy (weights_of days) ≡ true
 always_shared energy loads days fits weighed =
@@ -130,10 +115,6 @@ always_shared energy loads days fits weighed =
     let product = mul-le energy (length loads) largest_energy most_days parts.small parts.few in
     let small : energy * length (weights loads) * largest_day_weight ≤ largest_product = rw (length-map loads weight) (omega (arith, product)) in
     rw weighed (and_from _ _ (le-leb _ _ small) (lt-ltb _ _ (omega (arith, first, weight_positive (get_or loads 0 0), read))))
-
-pub same_length : (loads : List ℕ) (days : List ReadingDay) → weights_of days ≡ weights loads → length days ≡ length loads
-same_length loads days weighed =
-    omega (arith, ap length weighed, length-map days (λ (d : ReadingDay). d.weight), length-map loads weight)
 
 -- the lines by the weights and the shares of the days
 abbrev by_days : List ℕ → List ℕ → List ℕ → List DayLine

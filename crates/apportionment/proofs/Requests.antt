@@ -1,14 +1,34 @@
 -- A request read word by word. Assumes nothing.
 use Rattle.std.proofs.Common.{◌≡◌, ℕ, ◌+◌, ◌-◌, ◌<◌, ◌≤◌, List, [], ◌∷◌, ◌++◌, map, length, get_or, take, drop, Ok, Err, string_bytes, Result, String, sym, refl, ap, ◌∙◌, subst, ⊎_elim, arith}
 use Rattle.std.specs.declared.alloc.Global.{Global}
-use Rattle.std.proofs.lemmas.List.{get_or-drop, get_or-map, length-drop, map_more, take_all}
+use Rattle.std.proofs.lemmas.List.{get_or-drop, get_or-map, length-drop, map_more}
+use Rattle.std.proofs.lemmas.List.FromFn.{get_or-enumerate_from, length-enumerate_from}
+use Rattle.std.specs.List.{enumerate_from}
 use Rattle.std.proofs.lemmas.Bool.{cases_order, ne_eqb}
 use Rattle.words.specs.Numbers.{Reads, value}
 use Rattle.words.specs.declared.numbers.WordFault.{WordFault}
-use Rattle.apportionment.specs.Limits.{largest_energy, largest_load}
+use Rattle.apportionment.specs.Limits.{largest_load}
 use Rattle.apportionment.specs.Words.{Good, NumberAt, Requested, limit_at, texts}
 use Rattle.apportionment.specs.declared.fault.Fault.{Fault}
 use Rattle.apportionment.specs.declared.fault.Fault.TheVariants.{TooFewWords, TooManyWords, Word, Refused, Memory}
+
+-- the words after the first, each with its place: this turn's word stands at the place that it comes with
+pub record TurnAt (words : List (String Global)) (i place : ℕ) (word : String Global) : Type 0 where
+  pub place_is : place ≡ i + 1
+  pub within : i + 1 < length words
+  pub word_is : word ≡ get_or words (i + 1) word
+
+pub turn_at : (words : List (String Global)) (i place : ℕ) (word : String Global) → i < length (drop 1 (enumerate_from 0 words)) → (place, word) ≡ get_or (drop 1 (enumerate_from 0 words)) i (place, word) → TurnAt words i place word
+turn_at words i place word h e =
+    let within : i + 1 < length words = omega (arith, h, length-drop 1 (enumerate_from 0 words), length-enumerate_from 0 words) in
+    let later : 1 + i < length words = omega arith in
+    let same = e ∙ get_or-drop 1 (enumerate_from 0 words) i (place, word) ∙ get_or-enumerate_from 0 words (1 + i) (place, word) later in
+    let count : 1 + i ≡ i + 1 = omega arith in
+    record {
+      place_is = omega (arith, ap (λ (p : ℕ × String Global). p.0) same);
+      within = within;
+      word_is = ap (λ (p : ℕ × String Global). p.1) same ∙ ap (λ k. get_or words k word) count;
+    }
 
 -- the text of the word at a place, from the word that is read there
 pub text_at : (words : List (String Global)) {place : ℕ} {word : String Global} {text : List ℕ} → place < length words → word ≡ get_or words place word → text ≡ string_bytes word → text ≡ get_or (texts words) place []
@@ -32,13 +52,6 @@ load_limit place some = rw (ne_eqb place 0 (λ e. omega arith)) refl
 pub good_at : (ws : List (List ℕ)) (place n : ℕ) → Reads (get_or ws place []) (limit_at place) (Ok n) → Good ws place
 good_at ws place n reads = (reads.0, rw reads.1 at reads.2)
 
-pub read_first : (ws : List (List ℕ)) (n : ℕ) → Reads (get_or ws 0 []) largest_energy (Ok n) → ReadSoFar ws 1 n []
-read_first ws n reads = record {
-  good = λ earlier h. let first : 0 ≡ earlier = omega arith in subst (λ (k : ℕ). Good ws k) first (good_at ws 0 n reads);
-  energy_is = reads.1;
-  loads_are = refl;
-}
-
 pub read_more : {ws : List (List ℕ)} {place energy : ℕ} {loads : List ℕ} (n : ℕ) → 1 ≤ place → place < length ws → ReadSoFar ws place energy loads → Reads (get_or ws place []) largest_load (Ok n) → ReadSoFar ws (place + 1) energy (loads ++ (n ∷ []))
 read_more {ws} {place} {energy} {loads} n some within before reads =
     let reads_here : Reads (get_or ws place []) (limit_at place) (Ok n) = rw (load_limit place some) reads in
@@ -53,19 +66,13 @@ read_more {ws} {place} {energy} {loads} n some within before reads =
       loads_are = cc (before.loads_are, reads.1, one_more, at_place, count);
     }
 
-pub read_all : {ws : List (List ℕ)} {place energy : ℕ} {loads : List ℕ} → length ws ≤ place → ReadSoFar ws place energy loads → ((k : ℕ) → k < length ws → Good ws k) × (loads ≡ map value (drop 1 ws))
-read_all {ws} {place} past so_far = (
-  λ k h. so_far.good k (omega arith),
-  so_far.loads_are ∙ ap (map value) (take_all (place - 1) (drop 1 ws) (omega (arith, length-drop 1 ws))),
-)
-
 -- the fault of the word at a place, where all before it are good
-pub refused_at : (ws : List (List ℕ)) (place limit : ℕ) (e : Fault) → limit_at place ≡ limit → place < length ws → ((earlier : ℕ) → earlier < place → Good ws earlier) → NumberAt ws place limit (Err e) → Requested ws (Err e)
-refused_at ws place limit TooFewWords limit_is within good h = absurd h
-refused_at ws place limit TooManyWords limit_is within good h = absurd h
-refused_at ws place limit (Word at why) limit_is within good h =
-    let reads : Reads (get_or ws place []) (limit_at place) (Err why) = reads_alike (Err why) refl (sym limit_is) h.1 in
+pub refused_at : (ws : List (List ℕ)) (place limit : ℕ) (e : Fault) {at : ℕ} {text : List ℕ} → at ≡ place → text ≡ get_or ws place [] → limit_at place ≡ limit → place < length ws → ((earlier : ℕ) → earlier < place → Good ws earlier) → NumberAt text at limit (Err e) → Requested ws (Err e)
+refused_at ws place limit TooFewWords at_is text_is limit_is within good h = absurd h
+refused_at ws place limit TooManyWords at_is text_is limit_is within good h = absurd h
+refused_at ws place limit (Word at why) at_is text_is limit_is within good h =
+    let reads : Reads (get_or ws place []) (limit_at place) (Err why) = reads_alike (Err why) text_is (sym limit_is) h.1 in
     subst (λ (k : ℕ). (k < length ws) × ((earlier : ℕ) → earlier < k → Good ws earlier) × Reads (get_or ws k []) (limit_at k) (Err why))
-    (sym h.0) (within, good, reads)
-refused_at ws place limit (Refused e) limit_is within good h = absurd h
-refused_at ws place limit Memory limit_is within good h = absurd h
+    (sym at_is ∙ sym h.0) (within, good, reads)
+refused_at ws place limit (Refused e) at_is text_is limit_is within good h = absurd h
+refused_at ws place limit Memory at_is text_is limit_is within good h = absurd h

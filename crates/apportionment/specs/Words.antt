@@ -1,5 +1,5 @@
 -- The words of a request: an energy, and then the loads.
-use Rattle.std.specs.Prelude.{◌≡◌, ℕ, ◌+◌, ◌<◌, ◌≤◌, cond, List, [], map, length, drop, Ok, Err, vec_items, string_bytes, Result, String, ◌==◌, slice_index_or}
+use Rattle.std.specs.Prelude.{◌≡◌, ℕ, ◌+◌, ◌<◌, ◌≤◌, if◌then◌else◌, List, [], map, length, drop, Ok, Err, vec_items, string_bytes, Result, String, ◌==◌, slice_index_or}
 use Rattle.std.specs.declared.alloc.Global.{Global}
 use Rattle.words.specs.Numbers.{Numeral, Reads, value}
 use Rattle.apportionment.specs.Limits.{largest_energy, largest_load, most_days}
@@ -13,20 +13,20 @@ texts words = map string_bytes words
 
 -- the limit of the word at a place, counted from 0: the energy stands first
 abbrev pub limit_at : ℕ → ℕ
-limit_at place = cond (place == 0) largest_energy largest_load
+limit_at place = if place == 0 then largest_energy else largest_load
 
 -- the word at a place writes a number within its limit
 abbrev pub Good : List (List ℕ) → ℕ → Type 0
 Good ws place = Numeral (slice_index_or ws place []) × (value (slice_index_or ws place []) ≤ limit_at place)
 
--- the number that the word at a place writes, or that word's fault
-abbrev pub NumberAt : List (List ℕ) → ℕ → ℕ → Result ℕ Fault → Type 0
-NumberAt ws place limit (Ok n) = Reads (slice_index_or ws place []) limit (Ok n)
-NumberAt ws place limit (Err TooFewWords) = ⊥
-NumberAt ws place limit (Err TooManyWords) = ⊥
-NumberAt ws place limit (Err (Word at why)) = (at ≡ place) × Reads (slice_index_or ws place []) limit (Err why)
-NumberAt ws place limit (Err (Refused e)) = ⊥
-NumberAt ws place limit (Err Memory) = ⊥
+-- the number that a word at a place writes, or that word's fault
+abbrev pub NumberAt : List ℕ → ℕ → ℕ → Result ℕ Fault → Type 0
+NumberAt word place limit (Ok n) = Reads word limit (Ok n)
+NumberAt word place limit (Err TooFewWords) = ⊥
+NumberAt word place limit (Err TooManyWords) = ⊥
+NumberAt word place limit (Err (Word at why)) = (at ≡ place) × Reads word limit (Err why)
+NumberAt word place limit (Err (Refused e)) = ⊥
+NumberAt word place limit (Err Memory) = ⊥
 
 -- what reading a request answers: the numbers of good words; else the first word at fault and why
 abbrev pub Requested : List (List ℕ) → Result Request Fault → Type 0

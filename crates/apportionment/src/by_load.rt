@@ -45,6 +45,7 @@ fn weighed_days(heap: Global, loads: &[u64]) -> Result<Vec<ReadingDay>, Fault>
     ensures { Made (loads_within loads.now) (λ days. weights_of days.items ≡ weights loads.now) result }
 {
     let mut days = Vec::new(heap);
+    // A loop: `try_collect` does not say that it fails where an item does.
     for load in loads {
         days.push(ReadingDay::new(weight_of(*load))?)?;
     }
@@ -58,8 +59,8 @@ fn day_lines(heap: Global, loads: &[u64], days: &[ReadingDay]) -> Result<Vec<Day
 {
     let mut lines = Vec::new(heap);
     let mut running = 0;
-    for (i, load) in loads.iter().enumerate() {
-        let day = days[i];
+    // A loop: each line needs the sum of the weights up to it.
+    for (load, day) in loads.iter().zip(days) {
         running += day.weight;
         lines.push(DayLine {
             load: *load,

@@ -2,24 +2,29 @@ ghost use Rattle.std.specs.Prelude.{◌≡◌};
 ghost use Rattle.apportionment.specs.declared.fault.Fault.TheVariants.{Memory, Refused as RefusedCall};
 ghost use Rattle.refusals.specs.declared.refusal.Refusal.{Refusal as Reason};
 
+use super::limits::MOST_DAYS;
 use refusals::Refusal;
-use std::alloc;
-use std::alloc::AllocError;
+use std::alloc::{AllocError, AllocFailed};
+use thiserror::Error;
 use words::WordFault;
 
 // Why no table can be made.
-#[derive(Clone, Copy, PartialEq, Eq, Debug)]
+#[derive(Clone, Copy, PartialEq, Eq, Debug, Error)]
 pub enum Fault {
-    // Not an energy and at least one load.
+    #[error("too few words: an energy and the load of one day at least")]
     TooFewWords,
-    // More loads than a book has days.
+    #[error("too many words: the loads of {most} days at most", most = MOST_DAYS)]
     TooManyWords,
     // The word at this place, counted from 0, and what is wrong with it.
+    #[error("word {} {why}", .place.saturating_add(1))]
     Word { place: usize, why: WordFault },
+    #[error("a number is beyond its limit")]
     Refused(Refusal),
+    #[error("not enough memory")]
     Memory,
 }
 
+// The conversions are written out, since contracts name the fault that `?` gives.
 impl From<AllocError> for Fault {
     ghost from_gives = { λ _ r. r ≡ Memory };
 
@@ -28,10 +33,10 @@ impl From<AllocError> for Fault {
     }
 }
 
-impl<T: Drop> From<alloc::AllocFailed<T>> for Fault {
+impl<T: Drop> From<AllocFailed<T>> for Fault {
     ghost from_gives = { λ _ r. r ≡ Memory };
 
-    fn from(_e: alloc::AllocFailed<T>) -> Fault {
+    fn from(_e: AllocFailed<T>) -> Fault {
         Fault::Memory
     }
 }

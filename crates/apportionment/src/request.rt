@@ -1,4 +1,4 @@
-ghost use Rattle.std.specs.Prelude.{◌<◌, [], length};
+ghost use Rattle.std.specs.Prelude.{length};
 ghost use Rattle.apportionment.specs.Words.{NumberAt, Requested, texts};
 
 use super::asked::Request;
@@ -17,21 +17,18 @@ pub fn read_request(heap: Global, words: &[String]) -> Result<Request, Fault>
     if words.len() > 1 + MOST_DAYS {
         return Err(Fault::TooManyWords);
     }
-    let energy = number_at(words, 0, LARGEST_ENERGY)?;
+    let energy = number_at(words[0].as_str(), 0, LARGEST_ENERGY)?;
     let mut loads = Vec::new(heap);
-    for place in 1..words.len() {
-        loads.push(number_at(words, place, LARGEST_LOAD)?)?;
+    // A loop: `try_collect` does not say that it fails where an item does.
+    for (place, word) in words.iter().enumerate().skip(1) {
+        loads.push(number_at(word.as_str(), place, LARGEST_LOAD)?)?;
     }
     Ok(Request { energy, loads })
 }
 
 // The number that the word at a place writes.
-fn number_at(words: &[String], place: usize, limit: u64) -> Result<u64, Fault>
-    requires { place < length words.now }
-    ensures { NumberAt (texts words.now) place limit result }
+fn number_at(word: &str, place: usize, limit: u64) -> Result<u64, Fault>
+    ensures { NumberAt word.now place limit result }
 {
-    match number_up_to(words[place].as_str(), limit) {
-        Ok(number) => Ok(number),
-        Err(why) => Err(Fault::Word { place, why }),
-    }
+    number_up_to(word, limit).map_err(|why| Fault::Word { place, why })
 }

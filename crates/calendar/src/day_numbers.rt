@@ -11,7 +11,7 @@ use super::gregorian::{
 use refusals::Refusal;
 
 // The days from 1 January 2001 to 31 December 2099.
-pub(crate) const DAYS_IN_ALL: u32 = 36_159;
+pub const DAYS_IN_ALL: u32 = 36_159;
 
 // Four years, of which the last is a leap year.
 const DAYS_IN_FOUR_YEARS: u32 = 1461;
@@ -84,11 +84,9 @@ fn month_at(year: u32, days: u32) -> u32
     ensures begun { days_before_month year result ≤ days }
     ensures unended { days < days_before_month year (result + 1) }
 {
-    let mut month = 12;
-    while days_before_month(year, month) > days {
-        month -= 1;
-    }
-    month
+    (1..12)
+        .find(|month| days < days_before_month(year, *month + 1))
+        .unwrap_or(12)
 }
 
 // The days from 1 January 2001 to the date that a number of eight digits shows.

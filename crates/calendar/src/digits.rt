@@ -8,7 +8,7 @@ use super::gregorian::day_exists;
 use refusals::Refusal;
 
 impl Date {
-    // The date that a number of eight digits shows, year first.
+    // The date that a number of eight digits shows, year first. No `TryFrom`: a day number is a u32 too.
     pub fn from_digits(digits: u32) -> Result<Date, Refusal>
         ensures { AnswersBy result (is_date digits) (λ d. digits_of d ≡ digits) 4 }
     {

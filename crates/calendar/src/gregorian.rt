@@ -8,10 +8,8 @@ pub(crate) const LAST_YEAR: u32 = 2099;
 // The days of a year that is no leap year.
 pub(crate) const DAYS_IN_YEAR: u32 = 365;
 
-// The days of each of its months, and the days before each.
+// The days of each of its months.
 const MONTH_LENGTHS: [u32; 12] = [31, 28, 31, 30, 31, 30, 31, 31, 30, 31, 30, 31];
-
-const DAYS_BEFORE_MONTH: [u32; 12] = [0, 31, 59, 90, 120, 151, 181, 212, 243, 273, 304, 334];
 
 // Whether a year has a 29 February.
 pub(crate) fn is_leap(year: u32) -> bool
@@ -20,27 +18,21 @@ pub(crate) fn is_leap(year: u32) -> bool
     year % 4 == 0 && (year % 100 != 0 || year % 400 == 0)
 }
 
-// The days of a month.
+// The days of a month. Year and month are two numbers: where these functions are asked there is often no `Date` yet.
 pub(crate) fn month_length(year: u32, month: u32) -> u32
     requires { (1 ≤ month) × (month ≤ 12) }
     ensures { result ≡ month_length year month }
 {
-    let length = MONTH_LENGTHS[month as usize - 1];
-    if month == 2 && is_leap(year) {
-        length + 1
-    } else {
-        length
-    }
+    MONTH_LENGTHS[month as usize - 1] + u32::from(month == 2 && is_leap(year))
 }
 
 // Whether there is such a day in the calendar.
 pub(crate) fn day_exists(year: u32, month: u32, day: u32) -> bool
     ensures { result ≡ exists year month day }
 {
-    if year < FIRST_YEAR || year > LAST_YEAR || month < 1 || month > 12 {
-        return false;
-    }
-    1 <= day && day <= month_length(year, month)
+    (FIRST_YEAR..=LAST_YEAR).contains(&year)
+        && (1..=12).contains(&month)
+        && (1..=month_length(year, month)).contains(&day)
 }
 
 // The days of a year before a month.
@@ -48,12 +40,7 @@ pub(crate) fn days_before_month(year: u32, month: u32) -> u32
     requires { (1 ≤ month) × (month ≤ 12) }
     ensures { result ≡ days_before_month year month }
 {
-    let days = DAYS_BEFORE_MONTH[month as usize - 1];
-    if month > 2 && is_leap(year) {
-        days + 1
-    } else {
-        days
-    }
+    (1..month).map(|month| month_length(year, month)).sum()
 }
 
 // The days from 1 January 2001 to a year's first. Every fourth year among them is a leap year, as 2100 is not reached.

@@ -8,5 +8,5 @@ mod gregorian;
 mod laws;
 
 pub use date::Date;
-pub use day_numbers::{date_of_day_number, day_number_of};
+pub use day_numbers::{DAYS_IN_ALL, date_of_day_number, day_number_of};
 pub use laws::day_numbers_follow_dates;

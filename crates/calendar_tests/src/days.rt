@@ -1,5 +1,5 @@
 // What the calendar says of days known from elsewhere, and of every day in turn.
-use calendar::{Date, date_of_day_number, day_number_of, day_numbers_follow_dates};
+use calendar::{DAYS_IN_ALL, Date, date_of_day_number, day_number_of, day_numbers_follow_dates};
 use refusals::Refusal;
 use std::process::Abort;
 use std::test::Fail;
@@ -59,28 +59,16 @@ const NO_DATES: [u32; 33] = [
     120240101, 99999999, 4294967295,
 ];
 
-fn accepted<T>(answer: Result<T, Refusal>) -> Result<T, Fail> {
-    match answer {
-        Ok(value) => Ok(value),
-        Err(_) => Err(Fail::new("refused")),
-    }
-}
-
-fn check_refused<T: Drop>(rt: &impl Abort, answer: Result<T, Refusal>) -> Result<(), Fail> {
-    match answer {
-        Ok(_) => Err(Fail::new("accepted")),
-        Err(refusal) => {
-            assert_eq!(rt; refusal.number(), 4);
-            Ok(())
-        },
-    }
+fn check_no_such_date<T: Drop>(rt: &impl Abort, answer: Result<T, Refusal>) -> Result<(), Fail> {
+    assert_eq!(rt; answer.err(), Some(Refusal::NoSuchDate));
+    Ok(())
 }
 
 #[test]
 fn known_numbers(rt: HostRuntime) -> Result<(), Fail> {
     for (digits, number, _) in DAYS {
-        assert_eq!(rt; accepted(day_number_of(digits))?, number);
-        assert_eq!(rt; accepted(date_of_day_number(number))?, digits);
+        assert_eq!(rt; day_number_of(digits)?, number);
+        assert_eq!(rt; date_of_day_number(number)?, digits);
     }
     Ok(())
 }
@@ -88,7 +76,7 @@ fn known_numbers(rt: HostRuntime) -> Result<(), Fail> {
 #[test]
 fn known_parts(rt: HostRuntime) -> Result<(), Fail> {
     for (digits, _, place) in DAYS {
-        let date = accepted(Date::from_digits(digits))?;
+        let date = Date::from_digits(digits)?;
         assert_eq!(rt; date.day_of_year(), place);
         assert_eq!(rt; date.year(), digits / 10_000);
         assert_eq!(rt; date.month(), digits / 100 % 100);
@@ -100,8 +88,8 @@ fn known_parts(rt: HostRuntime) -> Result<(), Fail> {
 #[test]
 fn no_dates(rt: HostRuntime) -> Result<(), Fail> {
     for digits in NO_DATES {
-        check_refused(&rt, day_number_of(digits))?;
-        check_refused(&rt, Date::from_digits(digits))?;
+        check_no_such_date(&rt, day_number_of(digits))?;
+        check_no_such_date(&rt, Date::from_digits(digits))?;
     }
     Ok(())
 }
@@ -109,26 +97,24 @@ fn no_dates(rt: HostRuntime) -> Result<(), Fail> {
 #[test]
 fn days_after(rt: HostRuntime) -> Result<(), Fail> {
     for (day, after) in DAYS_AFTER {
-        let date = accepted(Date::from_digits(day))?;
-        assert_eq!(rt; accepted(date.next())?.digits(), after);
+        let date = Date::from_digits(day)?;
+        assert_eq!(rt; date.next()?.digits(), after);
     }
-    check_refused(&rt, accepted(Date::from_digits(20991231))?.next())
+    check_no_such_date(&rt, Date::from_digits(20991231)?.next())
 }
 
 #[test]
 fn every_day_in_turn(rt: HostRuntime) -> Result<(), Fail> {
     let days = day_numbers_follow_dates();
     assert_eq!(rt; days, 36_159);
-    let mut today = accepted(Date::from_digits(20010101))?;
+    assert_eq!(rt; DAYS_IN_ALL, days);
+    let mut today = Date::from_digits(20010101)?;
     for number in 1..days {
-        today = accepted(today.next())?;
+        today = today.next()?;
         assert_eq!(rt; today.day_number(), number);
-        assert_eq!(rt;
-            accepted(Date::from_day_number(number))?.digits(),
-            today.digits()
-        );
+        assert_eq!(rt; Date::from_day_number(number)?.digits(), today.digits());
     }
     assert_eq!(rt; today.digits(), 20991231);
-    check_refused(&rt, date_of_day_number(days))?;
-    check_refused(&rt, date_of_day_number(u32::MAX))
+    check_no_such_date(&rt, date_of_day_number(days))?;
+    check_no_such_date(&rt, date_of_day_number(u32::MAX))
 }

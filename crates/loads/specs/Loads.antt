@@ -1,5 +1,5 @@
 -- The net system load of a day, in whole megajoules.
-use Rattle.std.specs.Prelude.{ℕ, ◌+◌, ◌-◌, ◌*◌, Bool, cond, ◌&&◌, ◌==◌, nat_le}
+use Rattle.std.specs.Prelude.{ℕ, ◌+◌, ◌-◌, ◌*◌, Bool, if◌then◌else◌, ◌&&◌, ◌==◌, nat_le}
 use Rattle.rounding.specs.Nearest.{nearest}
 
 -- the most energy that enters or leaves through the gate on a day
@@ -32,4 +32,4 @@ net_load energy_in energy_out interval = energy_in - (energy_out + interval)
 
 -- the weight of a day: its load, or 1 where that is 0
 abbrev pub weight : ℕ → ℕ
-weight load = cond (load == 0) 1 load
+weight load = if load == 0 then 1 else load

@@ -51,5 +51,5 @@ pub fn net_system_load(
 pub fn weight_of(load: u64) -> u64
     ensures { result ≡ weight load }
 {
-    if load == 0 { 1 } else { load }
+    load.max(1)
 }

@@ -1,7 +1,7 @@
 // Rounding to the nearest whole number.
 #![tactic(auto)]
 
-ghost use Rattle.std.specs.Prelude.{◌≡◌, ◌+◌, ◌≤◌, nat_le, nat_lt};
+ghost use Rattle.std.specs.Prelude.{◌+◌, ◌≤◌, ◌↔◌, IsTrue, nat_lt};
 ghost use Rattle.refusals.specs.Answers.{Answers};
 ghost use Rattle.rounding.specs.Nearest.{nearest};
 
@@ -25,7 +25,7 @@ pub fn nearest_quotient(number: u64, by: u64) -> Result<u64, Refusal>
 // Whether a rest is half of the divisor and more, told without a sum that could pass the largest u64.
 fn half_or_more(rest: u64, by: u64) -> bool
     requires { rest ≤ by }
-    ensures { result ≡ nat_le by (rest + rest) }
+    ensures { IsTrue result ↔ (by ≤ rest + rest) }
 {
     rest >= by - rest
 }

@@ -1,4 +1,5 @@
-ghost use Rattle.words.specs.Numbers.{Reads};
+ghost use Rattle.std.specs.Prelude.{◌↔◌, IsTrue};
+ghost use Rattle.words.specs.Numbers.{Numeral, Reads};
 
 use super::numbers::WordFault;
 
@@ -6,21 +7,19 @@ use super::numbers::WordFault;
 pub fn number_up_to(word: &str, most: u64) -> Result<u64, WordFault>
     ensures { Reads word.now most result }
 {
-    let bytes = word.as_bytes();
-    if bytes.is_empty() {
+    if !is_numeral(word) {
         return Err(WordFault::NotANumber);
     }
-    // A number beyond the limit is held just beyond it, so that no word overflows.
-    let beyond = u128::from(most) + 1;
-    let mut number = 0u128;
-    for byte in bytes {
-        if !byte.is_ascii_digit() {
-            return Err(WordFault::NotANumber);
-        }
-        number = (number * 10 + u128::from(*byte - b'0')).min(beyond);
-    }
-    if number >= beyond {
-        return Err(WordFault::BeyondLimit);
-    }
-    Ok(number as u64)
+    // Digits alone fail to parse only where they write more than a u64 holds.
+    word.parse::<u64>()
+        .ok()
+        .filter(|number| *number <= most)
+        .ok_or(WordFault::BeyondLimit)
+}
+
+// Whether a word is one decimal digit or more, and nothing else.
+fn is_numeral(word: &str) -> bool
+    ensures { IsTrue result ↔ Numeral word.now }
+{
+    !word.is_empty() && word.bytes().all(|byte| byte.is_ascii_digit())
 }

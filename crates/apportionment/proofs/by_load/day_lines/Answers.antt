@@ -1,14 +1,15 @@
-use Rattle.std.proofs.Common.{arith}
+use Rattle.std.proofs.Common.{rules, refl, length-append, arith}
+use Rattle.std.proofs.lemmas.Slice.Zip.{zip_turn}
 use Rattle.apportionment.proofs.Days.{run_within, written_more}
 use Rattle.apportionment.proofs.by_load.day_lines.Goals as goal
 
 pub overflow_add-running : goal.overflow_add-running
-overflow_add-running c = record {
-  fits = omega (arith, run_within c.requires.0 c.loop-i-test.true c.loop-i.invariant c.index-days-i.result c.index-days-i.is c.requires.1);
-}
+overflow_add-running c =
+    let turn = zip_turn c.args.loads.now c.args.days.now c.loop-load.yielded c.into_iter-load-iterator.result c.loop-load.load-iterator c.next.new.self c.next.result (search rules) (search rules) c.loop-load.yielded_by (c.in-Some.load, c.in-Some.day) c.in-Some.is c.next.ensures.steps in
+    record { fits = omega (arith, run_within c.requires.0 turn.0 c.loop-load.invariant c.in-Some.day.now (turn.3 c.in-Some.day.now) c.requires.1) }
 
-pub loop-i-preserved : goal.loop-i-preserved
-loop-i-preserved c =
-    rw c.in_ok-push.ensures.items
-    (written_more c.requires.0 c.loop-i-test.true c.loop-i.invariant c.index-days-i.result c.index-days-i.is _ (omega arith)
-    (omega arith) (omega arith) (omega arith))
+pub loop-load-preserved : goal.loop-load-preserved
+loop-load-preserved c =
+    let turn = zip_turn c.args.loads.now c.args.days.now c.loop-load.yielded c.into_iter-load-iterator.result c.loop-load.load-iterator c.next.new.self c.next.result (search rules) (search rules) c.loop-load.yielded_by (c.in-Some.load, c.in-Some.day) c.in-Some.is c.next.ensures.steps in
+    rw (length-append, c.in_ok-push.ensures.items)
+    (written_more c.requires.0 turn.0 c.loop-load.invariant c.in-Some.day.now (turn.3 c.in-Some.day.now) _ (turn.2 0) refl refl refl)

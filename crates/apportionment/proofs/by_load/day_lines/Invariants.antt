@@ -1,6 +1,6 @@
-use Rattle.std.proofs.Common.{vec_items}
+use Rattle.std.proofs.Common.{length, vec_items}
 use Rattle.apportionment.proofs.Days.{Written}
 use Rattle.apportionment.proofs.by_load.day_lines.Given as goal
 
-abbrev pub invariant-loop-i : goal.invariant-loop-i
-invariant-loop-i l = Written l.loads l.days l.i l.running (vec_items l.lines)
+abbrev pub invariant-loop-load : goal.invariant-loop-load
+invariant-loop-load l = Written l.loads l.days (length l.yielded) l.running (vec_items l.lines)

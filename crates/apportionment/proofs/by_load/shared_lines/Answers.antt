@@ -1,8 +1,8 @@
-use Rattle.std.proofs.Common.{refl, ap, ◌∙◌, arith}
+use Rattle.std.proofs.Common.{refl, ap, ◌∙◌}
 use Rattle.std.proofs.lemmas.Bool.{both_ways}
 use Rattle.refusals.specs.Answers.{refused_since}
 use Rattle.apportionment.specs.Days.{lines_of}
-use Rattle.apportionment.proofs.Days.{always_shared, few_days, lines_of_shared, same_length}
+use Rattle.apportionment.proofs.Days.{always_shared, lines_of_shared}
 use Rattle.apportionment.proofs.by_load.shared_lines.Goals as goal
 
 pub returns-in_err-share : goal.returns-in_err-share
@@ -10,12 +10,6 @@ returns-in_err-share c =
     let can = always_shared c.args.energy c.args.loads.now c.args.days.now c.requires.sized c.requires.weighed in
     let refused = refused_since _ _ _ _ c.in_err-share.ensures.answer in
     absurd (both_ways _ refused.0 can)
-
-pub day_lines-requires : goal.day_lines-requires
-day_lines-requires c =
-    let same = same_length c.args.loads.now c.args.days.now c.requires.weighed in
-    let few = few_days c.args.energy c.args.loads.now c.requires.sized in
-    (omega (arith, same, c.share.auto.rows), omega (arith, same, few, c.share.auto.rows))
 
 pub returns : goal.returns
 returns c =

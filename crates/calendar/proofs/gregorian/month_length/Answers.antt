@@ -3,8 +3,5 @@ use Rattle.std.proofs.lemmas.Bool.Decides.{nat_tests}
 use Rattle.calendar.proofs.Months.{month_length_is}
 use Rattle.calendar.proofs.gregorian.month_length.Goals as goal
 
-pub returns-then-is_leap : goal.returns-then-is_leap
-returns-then-is_leap c = grind (arith, nat_tests, month_length_is c.args.year c.args.month (omega arith) (omega arith))
-
-pub returns-else-month-eq2 : goal.returns-else-month-eq2
-returns-else-month-eq2 c = grind (arith, nat_tests, month_length_is c.args.year c.args.month (omega arith) (omega arith))
+pub returns : goal.returns
+returns c = grind (arith, nat_tests, month_length_is c.args.year c.args.month (omega arith) (omega arith))

@@ -1,29 +1,30 @@
-use Rattle.std.proofs.Common.{arith, rules}
-use Rattle.words.proofs.Scans.{scanned_more, scanned_all, no_numeral}
+use Rattle.std.proofs.Common.{◌≡◌, ℕ, ◌^◌, ◌<◌, Bool, true, false, List, Ok, Err, None, Option, Result, MatchOption, refl, nat_le, arith, rules, tests}
+use Rattle.std.specs.Bool.{then_some}
+use Rattle.std.specs.Option.{ok_or}
+use Rattle.std.specs.Result.{result_ok}
+use Rattle.std.specs.Str.Parse.{ParsesUnsigned}
+use Rattle.words.specs.Numbers.{Numeral, Reads, value}
+use Rattle.words.specs.declared.numbers.WordFault.TheVariants.{BeyondLimit}
+use Rattle.words.proofs.Numerals.{parsed_is, unparsed_is}
 use Rattle.words.proofs.reading.number_up_to.Goals as goal
 
-pub loop-byte-init : goal.loop-byte-init
-loop-byte-init c = record { digits = tt; number_is = omega arith }
+-- a numeral's number is kept where it is at most `most`
+number_kept : (most : ℕ) (word : List ℕ) (n : ℕ) (b : Bool) → Numeral word → n ≡ value word → b ≡ nat_le n most → Reads word most (ok_or (then_some b n) BeyondLimit)
+number_kept most word n true numeral same kept = (numeral, same, search (rules, tests))
+number_kept most word n false numeral same kept = (numeral, search (rules, tests))
 
-pub overflow_mul-number : goal.overflow_mul-number
-overflow_mul-number c = record { fits = omega (arith, c.loop-byte.invariant.number_is) }
-
-pub returns-then-not-is_ascii_digit : goal.returns-then-not-is_ascii_digit
-returns-then-not-is_ascii_digit c =
-    let other = c.if-not-is_ascii_digit.ensures.cases in
-    rw (← c.as_bytes-bytes.ensures.value) (no_numeral _ _ c.loop-byte-test.true (λ digit. omega (arith, other, digit)))
-
-pub loop-byte-preserved : goal.loop-byte-preserved
-loop-byte-preserved c =
-    scanned_more _ c.loop-byte-test.true c.loop-byte.invariant c.if-not-is_ascii_digit.ensures.cases
-    (omega (arith, c.from.ensures, c.min-number.ensures))
-
-pub returns-then-number-beyond : goal.returns-then-number-beyond
-returns-then-number-beyond c =
-    let all = rw c.as_bytes-bytes.ensures.value at (scanned_all c.loop-byte-test.false c.loop-byte.invariant) in
-    ((search rules, all.0), omega (arith, all.1))
+-- what is answered of a numeral, by whether it was parsed
+parsed_kept : {E : Type 0} (Keeps : ℕ → Bool → Type 0) (most : ℕ) (word : List ℕ) (parsed : Result ℕ E) (kept : Option ℕ)
+    → Numeral word → most < 2 ^ 64 → ParsesUnsigned 64 10 word parsed → ((n : ℕ) (b : Bool) → Keeps n b → b ≡ nat_le n most)
+    → MatchOption (result_ok parsed) (kept ≡ None) (λ n. (b : Bool) × Keeps n b × (kept ≡ then_some b n))
+    → Reads word most (ok_or kept BeyondLimit)
+parsed_kept {E} Keeps most word (Err e) kept numeral fits fails keeps none =
+    rw none (numeral, omega (arith, fits, unparsed_is (Err e) word e refl numeral fails))
+parsed_kept {E} Keeps most word (Ok n) kept numeral fits parses keeps (b, said, kept_is) =
+    rw kept_is (number_kept most word n b numeral (parsed_is {E = E} (Ok n) word n refl numeral parses) (keeps n b said))
 
 pub returns : goal.returns
 returns c =
-    let all = rw c.as_bytes-bytes.ensures.value at (scanned_all c.loop-byte-test.false c.loop-byte.invariant) in
-    ((search rules, all.0), omega (arith, all.1), omega (arith, all.1))
+    let numeral : Numeral c.args.word.now = search rules in
+    let kept = rw c.ok.ensures.value at c.filter.ensures in
+    rw c.ok_or.ensures.value (parsed_kept _ _ _ c.parse.result _ numeral (omega arith) c.parse.ensures.value.0 (λ n b said. search (rules, tests)) kept)
