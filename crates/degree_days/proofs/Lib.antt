@@ -1,3 +1,3 @@
 pub mod Limits
-pub mod Passes
 pub mod Table
+pub mod Sums

@@ -4,6 +4,7 @@ use Rattle.std.specs.List.{list_all}
 use Rattle.rounding.specs.Nearest.{nearest}
 use Rattle.degree_days.specs.Rounding.{or_zero}
 use Rattle.degree_days.specs.Season.{season}
+use Rattle.degree_days.specs.declared.observations.Observations.{Observations}
 use Rattle.degree_days.specs.declared.terms.Terms.{Terms}
 
 -- a temperature in tenths of a degree, from −20.0 to 50.0 degrees
@@ -22,10 +23,13 @@ sunshine_within h = nat_le h 160
 abbrev pub day_within : ℕ → Bool
 day_within n = nat_le 1 n && nat_le n 366
 
--- all of a day's observations, and its place in the year, are within their limits
-abbrev pub within : List ℤ → List ℕ → ℕ → ℕ → Bool
-within temperatures winds sunshine day =
-    list_all temperature_within temperatures && (list_all wind_within winds && (sunshine_within sunshine && day_within day))
+-- all of a day's observations are within their limits
+abbrev pub observed_within : Observations → Bool
+observed_within day = list_all temperature_within day.temperatures && (list_all wind_within day.winds && sunshine_within day.sunshine)
+
+-- so are they, and so is the day's place in its year
+abbrev pub within : Observations → ℕ → Bool
+within day place = observed_within day && day_within place
 
 -- the sum of numbers that may be negative
 abbrev pub signed_sum : List ℤ → ℤ
@@ -48,17 +52,17 @@ terms q w h s = record {
 abbrev pub together : Terms → ℤ
 together t = pos (t.temperature + t.wind_chill) -ℤ pos t.sunshine +ℤ t.season
 
--- the terms of a day
-abbrev pub terms_of : List ℤ → List ℕ → ℕ → ℕ → Terms
-terms_of temperatures winds sunshine day = terms (coldness temperatures) (sum winds) sunshine (season day)
+-- the terms of a day, from what was observed and its place in the year
+abbrev pub terms_of : Observations → ℕ → Terms
+terms_of day place = terms (coldness day.temperatures) (sum day.winds) day.sunshine (season place)
 
 -- the count that terms come to: their sum, or 0 if it is negative, to the nearest hundredth, halves up
 abbrev pub count_of : Terms → ℕ
 count_of t = nearest (or_zero (together t)) 1600000
 
--- the degree-day count of a day, in hundredths, from its temperatures, winds and sunshine and its place in the year
-abbrev pub degree_days : List ℤ → List ℕ → ℕ → ℕ → ℕ
-degree_days temperatures winds sunshine day = count_of (terms_of temperatures winds sunshine day)
+-- the degree-day count of a day, in hundredths, from what was observed and its place in the year
+abbrev pub degree_days : Observations → ℕ → ℕ
+degree_days day place = count_of (terms_of day place)
 
 -- the most that the terms of observations within their limits can be
 pub record Small (t : Terms) : Type 0 where

@@ -6,4 +6,4 @@ mod season;
 mod terms;
 
 pub use observations::{Observations, temperature_within, wind_within};
-pub use terms::Terms;
+pub use terms::{HUNDREDTH, Terms};

@@ -1,4 +1,4 @@
-ghost use Rattle.std.specs.Prelude.{◌≡◌, ◌≤◌, T, pos, negsuc, ◌*ℤ◌, neg_ℤ, ◌≤ℤ◌};
+ghost use Rattle.std.specs.Prelude.{◌≡◌, ◌≤◌, IsTrue, pos, negsuc, ◌*ℤ◌, neg_ℤ, ◌≤ℤ◌};
 ghost use Rattle.std.specs.List.{list_all};
 ghost use Rattle.degree_days.specs.Season.{season, seasonal, moderate};
 
@@ -38,24 +38,15 @@ pub(crate) fn season_term(day_of_year: u32) -> i64
     ensures value { result ≡ pos 1600000 *ℤ season day_of_year }
     ensures bounds { (neg_ℤ (pos 320000000) ≤ℤ result) × (result ≤ℤ pos 320000000) }
 {
-    HUNDREDTH as i64 * i64::from(season_of(day_of_year))
-}
-
-// The season term of a day of the year, in hundredths of a degree day.
-fn season_of(day_of_year: u32) -> i32
-    requires { (1 ≤ day_of_year) × (day_of_year ≤ 366) }
-    ensures value { result ≡ season day_of_year }
-    ensures bounds { (negsuc 199 ≤ℤ result) × (result ≤ℤ pos 200) }
-{
-    entry_of(&SEASON, day_of_year)
+    HUNDREDTH as i64 * i64::from(entry_of(&SEASON, day_of_year))
 }
 
 // The entry of a day of the year in a table whose entries are all season terms.
 fn entry_of(table: &[i32; 366], day_of_year: u32) -> i32
-    requires seasonal { (T (seasonal 1 table.now)) × (T (list_all moderate table.now)) }
+    requires seasonal { IsTrue (seasonal 1 table.now) × IsTrue (list_all moderate table.now) }
     requires within { (1 ≤ day_of_year) × (day_of_year ≤ 366) }
     ensures value { result ≡ season day_of_year }
-    ensures bounds { T (moderate result) }
+    ensures bounds { (negsuc 199 ≤ℤ result) × (result ≤ℤ pos 200) }
 {
     table[day_of_year as usize - 1]
 }

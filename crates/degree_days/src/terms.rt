@@ -2,10 +2,10 @@ ghost use Rattle.std.specs.Prelude.{◌≡◌, ◌≤◌, pos, ◌≤ℤ◌};
 ghost use Rattle.degree_days.specs.Counts.{together, count_of, Small};
 
 // How many parts of a term make a hundredth of a degree day.
-pub(crate) const HUNDREDTH: u64 = 1_600_000;
+pub const HUNDREDTH: u64 = 1_600_000;
 
 // The four terms of a day's degree days, in 1,600,000ths of a hundredth of a degree day.
-#[derive(Clone, Copy)]
+#[derive(Clone, Copy, PartialEq, Eq, Debug)]
 pub struct Terms {
     pub temperature: u64,
     pub wind_chill: u64,
@@ -18,15 +18,12 @@ pub struct Terms {
 impl Terms {
     // The count that the terms come to, in hundredths.
     pub(crate) fn count(&self) -> u32
+        // Not kept by the type: the definitions make terms of any observations, also of those beyond their limits.
         requires { Small self.now }
         ensures { (result ≡ count_of self.now) × (result ≤ 12722) }
     {
-        let parts = self.together();
-        if parts < 0 {
-            0
-        } else {
-            ((2 * parts as u64 + HUNDREDTH) / (2 * HUNDREDTH)) as u32
-        }
+        let parts = self.together().max(0) as u64;
+        ((2 * parts + HUNDREDTH) / (2 * HUNDREDTH)) as u32
     }
 
     // The terms together: temperature and wind chill, less sunshine, and the season's.

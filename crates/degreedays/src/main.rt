@@ -4,14 +4,15 @@
 mod shown;
 
 use by_weather::{ByWeather, Factors};
-use degree_days::{Observations, Terms};
+use degree_days::Observations;
 use estimators::{Cap, FallBack, Weather};
 use hot_water::{HotWater, Usage};
 use refusals::Refusal;
 use shown::{AnswerShown, TermShown};
 use std::process::ExitCode;
-use std::{env, io};
-use weather_day::{Answer, Word, reckon};
+use std::str::FromStr;
+use std::{array, env, io};
+use weather_day::{Answer, Reckoning, Word, reckon};
 
 // A date, eight temperatures, sixteen winds and sunshine.
 const WORDS: usize = 26;
@@ -45,13 +46,13 @@ fn main(rt: HostRuntime) -> anyhow::Result<ExitCode> {
         eprintln!(rt; "degreedays: {WORDS} words are wanted, and there are {count}")?;
         return Ok(ExitCode::FAILURE);
     }
-    let date = whole(&words, 0).unwrap_or(0);
+    // A word that is no number is no date either, and neither is 0.
+    let date = number(&words, 0).unwrap_or(0);
     match reckon(date, &observed(&words)) {
         Ok(reckoning) => {
-            let day_of_year = reckoning.day_of_year;
-            println!(rt; "{date}, day {day_of_year} of its year")?;
-            show_count(&rt, &reckoning.terms, reckoning.count)?;
-            show_samples(&rt, date, reckoning.count)
+            show_count(&rt, date, &reckoning)?;
+            show_samples(&rt, date, reckoning.count)?;
+            Ok(ExitCode::SUCCESS)
         }
         Err(word) => {
             fault(&rt, &words, word)?;
@@ -71,59 +72,40 @@ fn explain(rt: &HostRuntime) -> io::Result<()> {
 }
 
 // One line that names a word at fault.
-fn fault(rt: &HostRuntime, words: &Vec<String>, word: Word) -> io::Result<()> {
+fn fault(rt: &HostRuntime, words: &[String], word: Word) -> io::Result<()> {
     let Some(text) = words.get(word.place()) else {
         return eprintln!(rt; "degreedays: {word}");
     };
     eprintln!(rt; "degreedays: {text}: {word}")
 }
 
-// The whole number that a word is, if it is one.
-fn whole(words: &Vec<String>, place: usize) -> Option<u32> {
-    words.get(place)?.as_str().parse::<u32>().ok()
-}
-
-// The same, of a number that may be negative.
-fn signed(words: &Vec<String>, place: usize) -> Option<i32> {
-    words.get(place)?.as_str().parse::<i32>().ok()
+// The number that a word is, if it is one.
+fn number<N: FromStr<Err: Drop> + Drop>(words: &[String], place: usize) -> Option<N> {
+    words.get(place)?.as_str().parse::<N>().ok()
 }
 
 // The observations that the words tell. A word that is no number counts as one beyond every limit.
-fn observed(words: &Vec<String>) -> Observations {
-    let mut temperatures = [0; 8];
-    for i in 0..8 {
-        temperatures[i] = signed(words, 1 + i).unwrap_or(i32::MAX);
-    }
-    let mut winds = [0; 16];
-    for i in 0..16 {
-        winds[i] = whole(words, 9 + i).unwrap_or(u32::MAX);
-    }
-    let sunshine = whole(words, 25).unwrap_or(u32::MAX);
+// No `Option`: of all words at fault the first is named, so a word that is no number has to be judged in its turn.
+fn observed(words: &[String]) -> Observations {
     Observations {
-        temperatures,
-        winds,
-        sunshine,
+        temperatures: array::from_fn(|i| number(words, 1 + i).unwrap_or(i32::MAX)),
+        winds: array::from_fn(|i| number(words, 9 + i).unwrap_or(u32::MAX)),
+        sunshine: number(words, 25).unwrap_or(u32::MAX),
     }
 }
 
-// The terms in hundredths of a degree day, and the count that they come to.
-fn show_count(rt: &HostRuntime, terms: &Terms, count: u32) -> io::Result<()> {
-    let temperature = TermShown {
-        below_zero: false,
-        parts: terms.temperature,
-    };
-    let wind_chill = TermShown {
-        below_zero: false,
-        parts: terms.wind_chill,
-    };
-    let sunshine = TermShown {
-        below_zero: true,
-        parts: terms.sunshine,
-    };
-    let season = TermShown {
-        below_zero: terms.season < 0,
-        parts: terms.season.unsigned_abs(),
-    };
+// The day, the terms in hundredths of a degree day, and the count that they come to.
+fn show_count(rt: &HostRuntime, date: u32, reckoning: &Reckoning) -> io::Result<()> {
+    let Reckoning {
+        day_of_year,
+        terms,
+        count,
+    } = *reckoning;
+    let temperature = TermShown::Added(terms.temperature);
+    let wind_chill = TermShown::Added(terms.wind_chill);
+    let sunshine = TermShown::TakenAway(terms.sunshine);
+    let season = TermShown::from(terms.season);
+    println!(rt; "{date}, day {day_of_year} of its year")?;
     println!(rt; "temperature  {temperature}")?;
     println!(rt; "wind chill   {wind_chill}")?;
     println!(rt; "sunshine     {sunshine}")?;
@@ -132,24 +114,25 @@ fn show_count(rt: &HostRuntime, terms: &Terms, count: u32) -> io::Result<()> {
 }
 
 // What the sample points are given before and after the count is entered.
-fn show_samples(rt: &HostRuntime, date: u32, count: u32) -> anyhow::Result<ExitCode> {
-    let Ok(mut estimator) = sample_estimator(date) else {
-        return Ok(ExitCode::FAILURE);
-    };
-    let before = [
-        Answer::of(&estimator, 1, 1),
-        Answer::of(&estimator, 2, 1),
-        Answer::of(&estimator, 3, 1),
-    ];
-    if estimator.enter(1, count).is_err() {
-        return Ok(ExitCode::FAILURE);
-    }
-    for point in 1..4 {
-        let old = AnswerShown(before[point as usize - 1]);
-        let new = AnswerShown(Answer::of(&estimator, point, 1));
+fn show_samples(rt: &HostRuntime, date: u32, count: u32) -> anyhow::Result<()> {
+    let given = sampled(date, count)?;
+    for (point, (old, new)) in (1..4).zip(&given) {
         println!(rt; "point {point}: {old} before, {new} after")?;
     }
-    Ok(ExitCode::SUCCESS)
+    Ok(())
+}
+
+fn sampled(date: u32, count: u32) -> Result<[(AnswerShown, AnswerShown); 3], Refusal> {
+    let mut estimator = sample_estimator(date)?;
+    let before = samples(&estimator);
+    estimator.enter(1, count)?;
+    let after = samples(&estimator);
+    Ok(array::from_fn(|i| (before[i], after[i])))
+}
+
+// What each of the three sample points is given.
+fn samples(estimator: &Sampled) -> [AnswerShown; 3] {
+    [1, 2, 3].map(|point| AnswerShown(Answer::of(estimator, point, 1)))
 }
 
 // Point 1 has factors, point 2 factors, hot water and a greatest daily flow, point 3 hot water.

@@ -1,21 +1,10 @@
--- Products that pass the limit of a sharing, and those that keep within it. Assumes nothing.
-use Rattle.std.proofs.Common.{◌≡◌, ℕ, ◌-◌, ◌*◌, ◌/◌, ◌^◌, ◌<◌, ◌≤◌, eqb, leb, sym, ◌∙◌, ⊎_elim, mul-le-mul_right, mul_assoc, mul-le-mul_left, mul-zero, zero-mul, arith}
+-- Products within the limit of a sharing. Assumes nothing.
+use Rattle.std.proofs.Common.{◌≡◌, ℕ, ◌-◌, ◌*◌, ◌/◌, ◌^◌, ◌<◌, ◌≤◌, ⊎_elim, mul-le-mul_right, mul_assoc, mul-le-mul_left, zero-mul, arith}
 use native.Mathlib.Nat.{zero-div, min-le_left}
-use Rattle.std.proofs.lemmas.Bool.{cases_lt, ne_eqb, lt-leb, eq-eqb, le-leb}
+use Rattle.std.proofs.lemmas.Bool.{cases_lt}
 use Rattle.sharing.specs.Limits.{largest_product}
 use Rattle.sharing.specs.Sharing.{part}
 use Rattle.sharing.proofs.Totals.{capped}
-
--- where amount times rows fits no u64, only a largest weight of 0 brings the product within the limit
-pub large_product : (p largest : ℕ) → (p < 2 ^ 64 → ⊥) → eqb largest 0 ≡ leb (p * largest) largest_product
-large_product p largest large =
-    ⊎_elim
-    (λ (pos : 0 < largest).
-    ne_eqb largest 0 (λ e. omega arith) ∙ sym (lt-leb (p * largest) largest_product (omega (arith, mul-le-mul_left p pos))))
-    (λ (none : largest ≤ 0).
-    let zero_is : largest ≡ 0 = omega arith in
-    eq-eqb largest 0 zero_is ∙ sym (le-leb (p * largest) largest_product (rw (zero_is, mul-zero) (omega arith))))
-    (cases_lt 0 largest)
 
 -- Where the amount c times n rows times their largest weight keeps within the limit, for weights that add up to s of w.
 module _ (c n most : ℕ) (limit : c * n * most ≤ largest_product) (s w : ℕ) (few : w ≤ n * most) (of_all : s ≤ w) where

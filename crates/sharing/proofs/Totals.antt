@@ -1,9 +1,7 @@
 -- Sums of weights that stop at the largest u64. Assumes nothing.
-use Rattle.std.proofs.Common.{◌≡◌, ℕ, ◌+◌, ◌-◌, ◌*◌, ◌^◌, ◌<◌, ◌≤◌, min, List, [], ◌∷◌, map, length, get_or, sum, ap, arith}
-use Rattle.std.specs.List.{AllByRecursion}
+use Rattle.std.proofs.Common.{◌≡◌, ℕ, ◌+◌, ◌-◌, ◌*◌, ◌^◌, ◌<◌, ◌≤◌, min, List, map, length, get_or, sum, ap, arith}
 use Rattle.std.proofs.lemmas.List.{get_or-map, length-map, take_all}
-use Rattle.std.proofs.lemmas.List.Sums.{sum_by_more, sum_by-take-le, sum-map}
-use Rattle.std.proofs.ByRecursion.{sum_by_le}
+use Rattle.std.proofs.lemmas.List.Sums.{sum_by_more, sum_by-le, sum_by-take-le, sum-map}
 use Rattle.sharing.specs.Sharing.{running}
 
 -- a number, or the largest u64 where it is more
@@ -23,9 +21,5 @@ module _ {R : Type 0} (w : R → ℕ) (rows : List R) where
   pub running_within : (i : ℕ) → running (map w rows) i ≤ sum (map w rows)
   running_within i = sum_by-take-le (λ x. x) (map w rows) i
 
-  all_light : (most : ℕ) → ((row : R) → w row ≤ most) → (rs : List R) → AllByRecursion (λ row. w row ≤ most) rs
-  all_light most light [] = tt
-  all_light most light (r ∷ rs) = (light r, all_light most light rs)
-
   pub total_within : (most : ℕ) → ((row : R) → w row ≤ most) → sum (map w rows) ≤ length rows * most
-  total_within most light = omega (arith, sum-map w rows, sum_by_le w most rows (all_light most light rows))
+  total_within most light = omega (arith, sum-map w rows, sum_by-le w most rows (λ i d h. light _))

@@ -1,8 +1,7 @@
 -- A sharing, row by row. Assumes nothing.
-use Rattle.std.proofs.Common.{◌≡◌, ℕ, ◌+◌, ◌-◌, ◌*◌, ◌/◌, ◌<◌, ◌≤◌, Bool, true, ◌&&◌, ltb, leb, List, map, length, get_or, take, set, sum, sym, refl, ap, ◌∙◌, arith}
+use Rattle.std.proofs.Common.{◌≡◌, ℕ, ◌+◌, ◌-◌, ◌*◌, ◌/◌, ◌<◌, ◌≤◌, true, ltb, leb, List, map, length, get_or, take, set, sum, sym, refl, ap, ◌∙◌, arith}
 use Rattle.std.proofs.lemmas.List.{length-map, length-take-le, take_all}
 use Rattle.std.proofs.lemmas.Bool.{leb-true, ltb-true, and_parts}
-use Rattle.std.proofs.lemmas.Bool.Decides.{nat_tests}
 use Rattle.sharing.specs.Laws.{part_none, part_more, length_shares, slice_index_shares}
 use Rattle.sharing.specs.Rows.{handed}
 use Rattle.sharing.specs.Limits.{largest_product}
@@ -16,13 +15,6 @@ pub record Turn (c total run' fallen : ℕ) : Type 0 where
   pub some : 0 < total
   pub fits : c * run' ≤ largest_product
   pub grows : fallen ≤ c * run' / total
-
--- whether an amount can be shared, by the test of the product and the capped sum of the weights
-pub can_share_is : {R : Type 0} (w : R → ℕ) (rows : List R) (most c total : ℕ) (small : Bool) → total ≡ capped (sum (map w rows)) → small ≡ leb (c * length rows * most) largest_product → can_share most c (map w rows) ≡ (small && ltb 0 total)
-can_share_is w rows most c total small total_is small_is =
-    let long = length-map rows w in
-    let weights : ltb 0 (sum (map w rows)) ≡ ltb 0 total = grind (arith, nat_tests) in
-    cc
 
 -- an amount that can be shared keeps within the limit, over weights that add up to more than 0
 can_facts : {R : Type 0} (w : R → ℕ) (rows : List R) (most c : ℕ) → can_share most c (map w rows) ≡ true → (c * length rows * most ≤ largest_product) × (0 < sum (map w rows))

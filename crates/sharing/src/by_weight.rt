@@ -1,5 +1,5 @@
 ghost use Rattle.std.specs.Prelude.{◌≡◌, ◌+◌, ◌-◌, ◌*◌, ◌/◌, ◌^◌, ◌<◌, ◌≤◌, min, true, false, map, length, if◌then◌else◌, sum, MatchOption, nat_le};
-ghost use Rattle.refusals.specs.Answers.{AcceptedWhen};
+ghost use Rattle.refusals.specs.Answers.{AcceptedWhen, AnswersBy};
 ghost use Rattle.sharing.specs.Laws.{Keeps};
 ghost use Rattle.sharing.specs.Limits.{largest_product};
 ghost use Rattle.sharing.specs.Rows.{handed};
@@ -21,13 +21,11 @@ struct Progress {
 // Shares an amount over rows by their weights: each takes what falls to the weights up to its own, less what has
 // fallen to those before. The shares add up to the amount.
 pub fn share<R: Row>(amount: u64, rows: &mut [R]) -> Result<(), Refusal>
-    ensures answer { AcceptedWhen result (can_share R.heaviest amount (map R.weighs rows.old)) 3 }
-    ensures rows { rows.new ≡ (if can_share R.heaviest amount (map R.weighs rows.old) then handed R.taking rows.old (shares amount (map R.weighs rows.old)) else rows.old) }
+    ensures answer { AcceptedWhen result (can_share R.LARGEST amount (map R.weighs rows.old)) 3 }
+    ensures rows { rows.new ≡ (if can_share R.LARGEST amount (map R.weighs rows.old) then handed R.taking rows.old (shares amount (map R.weighs rows.old)) else rows.old) }
     ensures keeps { Keeps amount (map R.weighs rows.old) (shares amount (map R.weighs rows.old)) }
 {
-    let Some(total) = total_to_share_over(amount, rows) else {
-        return Err(Refusal::BeyondLimits);
-    };
+    let total = total_to_share_over(amount, rows)?;
     let mut progress = Progress {
         running: 0,
         fallen: 0,
@@ -54,27 +52,22 @@ fn take_share<R: Row>(row: &mut R, amount: u64, total: u64, before: Progress) ->
 }
 
 // The sum of the weights, capped at the largest u64, where the amount can be shared over the rows.
-fn total_to_share_over<R: Row>(amount: u64, rows: &[R]) -> Option<u64>
-    ensures { MatchOption result (can_share R.heaviest amount (map R.weighs rows.now) ≡ false) (λ total. (can_share R.heaviest amount (map R.weighs rows.now) ≡ true) × (total ≡ min (sum (map R.weighs rows.now)) (2 ^ 64 - 1))) }
+fn total_to_share_over<R: Row>(amount: u64, rows: &[R]) -> Result<u64, Refusal>
+    ensures { AnswersBy result (can_share R.LARGEST amount (map R.weighs rows.now)) (λ total. total ≡ min (sum (map R.weighs rows.now)) (2 ^ 64 - 1)) 3 }
 {
     let total = total_weight(rows);
-    let small = product_within(amount, rows.len(), R::limit());
-    if small && total > 0 {
-        Some(total)
-    } else {
-        None
+    if total == 0 || !product_within(amount, rows.len(), R::LARGEST) {
+        return Err(Refusal::BeyondLimits);
     }
+    Ok(total)
 }
 
 // The sum of the weights, or the largest u64 where it is more: an amount above 0 is then refused, and 0 falls as 0.
 fn total_weight<R: Row>(rows: &[R]) -> u64
     ensures { result ≡ min (sum (map R.weighs rows.now)) (2 ^ 64 - 1) }
 {
-    let mut total = 0u64;
-    for row in rows {
-        total = total.saturating_add(row.weight());
-    }
-    total
+    rows.iter()
+        .fold(0u64, |total, row| total.saturating_add(row.weight()))
 }
 
 // Whether the product of the three is at most the largest that a sharing takes.
@@ -84,8 +77,6 @@ fn product_within(amount: u64, rows: usize, largest: u64) -> bool
     let Some(both) = amount.checked_mul(rows as u64) else {
         return largest == 0;
     };
-    match both.checked_mul(largest) {
-        Some(product) => product <= LARGEST_PRODUCT,
-        None => false,
-    }
+    both.checked_mul(largest)
+        .is_some_and(|product| product <= LARGEST_PRODUCT)
 }

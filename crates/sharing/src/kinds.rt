@@ -23,17 +23,13 @@ impl ReadingDay {
 impl Row for ReadingDay {
     const LARGEST: u64 = 1_000_000_000;
 
-    ghost heaviest = { largest_day_weight };
+    ghost LARGEST = { largest_day_weight };
 
     ghost weighs = { λ day. day.weight };
 
     ghost taking = { with_share };
 
     ghost light = { λ day. day.light };
-
-    fn limit() -> u64 {
-        Self::LARGEST
-    }
 
     fn weight(&self) -> u64 {
         self.weight
@@ -44,6 +40,7 @@ impl Row for ReadingDay {
     }
 }
 
+// Each kind names its numbers in its own words, so one generic `new` would need a constructor in the interface for it.
 impl EstimatedPoint {
     // A point with this estimate that is not scaled yet.
     pub fn new(estimate: u64) -> Result<EstimatedPoint, Refusal>
@@ -62,17 +59,13 @@ impl EstimatedPoint {
 impl Row for EstimatedPoint {
     const LARGEST: u64 = 1_000_000;
 
-    ghost heaviest = { largest_estimate };
+    ghost LARGEST = { largest_estimate };
 
     ghost weighs = { λ point. point.estimate };
 
     ghost taking = { with_figure };
 
     ghost light = { λ point. point.light };
-
-    fn limit() -> u64 {
-        Self::LARGEST
-    }
 
     fn weight(&self) -> u64 {
         self.estimate

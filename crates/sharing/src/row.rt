@@ -5,17 +5,13 @@ pub trait Row {
     // The largest weight that this kind of row can carry.
     const LARGEST: u64;
 
-    // The same number for the promises, which cannot name a constant of a trait.
-    ghost heaviest: { ℕ };
+    // The same number, as the promises name it.
+    ghost LARGEST: { ℕ };
 
     ghost weighs: { Self → ℕ };
 
     // The row once it has taken a share.
     ghost taking: { Self → ℕ → Self };
-
-    // Ties the constant to its number.
-    fn limit() -> u64
-        ensures { result ≡ heaviest };
 
     fn weight(&self) -> u64
         ensures { result ≡ weighs self.now };
@@ -23,5 +19,5 @@ pub trait Row {
     fn take(&mut self, share: u64)
         ensures { self.new ≡ taking self.old share };
 
-    ghost light: { (row : Self) → weighs row ≤ heaviest };
+    ghost light: { (row : Self) → weighs row ≤ LARGEST };
 }

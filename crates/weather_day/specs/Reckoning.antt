@@ -1,8 +1,9 @@
 -- The degree days of a date.
-use Rattle.std.specs.Prelude.{ℕ, List, ℤ, Some, None, Ok, Err, Option, Result}
+use Rattle.std.specs.Prelude.{ℕ, Some, None, Ok, Err, Option, Result}
 use Rattle.calendar.specs.Gregorian.{day_of_year}
 use Rattle.calendar.specs.Digits.{year_shown, month_shown, day_shown}
 use Rattle.degree_days.specs.Counts.{terms_of, degree_days}
+use Rattle.degree_days.specs.declared.observations.Observations.{Observations}
 use Rattle.weather_day.specs.declared.reckoning.Reckoning.{Reckoning}
 use Rattle.weather_day.specs.declared.word.Word.{Word}
 
@@ -11,11 +12,11 @@ abbrev pub place_of : ℕ → ℕ
 place_of date = day_of_year (year_shown date) (month_shown date) (day_shown date)
 
 -- the terms and the count of a date's weather
-abbrev pub reckoned : ℕ → List ℤ → List ℕ → ℕ → Reckoning
-reckoned date temperatures winds sunshine = record {
+abbrev pub reckoned : ℕ → Observations → Reckoning
+reckoned date day = record {
   day_of_year = place_of date;
-  terms = terms_of temperatures winds sunshine (place_of date);
-  count = degree_days temperatures winds sunshine (place_of date);
+  terms = terms_of day (place_of date);
+  count = degree_days day (place_of date);
 }
 
 -- the value where no word is at fault, else the first word that is

@@ -2,7 +2,6 @@
 #![tactic(auto)]
 
 mod answer;
-mod limited;
 mod reckoning;
 mod word;
 

@@ -1,16 +1,15 @@
 ghost use Rattle.std.specs.Prelude.{◌≡◌, T, IfOk, if◌then◌else◌, Result};
 ghost use Rattle.calendar.specs.Digits.{is_date};
 ghost use Rattle.degree_days.specs.Counts.{day_within};
-ghost use Rattle.weather_day.specs.Words.{first_fault};
+ghost use Rattle.weather_day.specs.Words.{first_beyond, first_fault};
 ghost use Rattle.weather_day.specs.Reckoning.{place_of, reckoned, unless};
 
-use super::limited::first_beyond;
 use super::word::Word;
 use calendar::Date;
-use degree_days::{Observations, Terms};
+use degree_days::{Observations, Terms, temperature_within, wind_within};
 
 // The degree days of a day: their terms, and the count in hundredths.
-#[derive(Clone, Copy)]
+#[derive(Clone, Copy, PartialEq, Eq, Debug)]
 pub struct Reckoning {
     pub day_of_year: u32,
     pub terms: Terms,
@@ -19,21 +18,15 @@ pub struct Reckoning {
 
 // The degree days of a date, given by its eight digits, or the first word that is at fault.
 pub fn reckon(date: u32, observations: &Observations) -> Result<Reckoning, Word>
-    ensures { result ≡ unless (first_fault date observations.now.temperatures observations.now.winds observations.now.sunshine) (reckoned date observations.now.temperatures observations.now.winds observations.now.sunshine) }
+    ensures { result ≡ unless (first_fault date observations.now) (reckoned date observations.now) }
 {
     let day_of_year = place_of(date)?;
-    if let Some(place) = first_beyond(&observations.temperatures) {
-        return Err(Word::Temperature(place));
-    }
-    if let Some(place) = first_beyond(&observations.winds) {
-        return Err(Word::Wind(place));
-    }
-    let Ok(terms) = observations.terms(day_of_year) else {
-        return Err(Word::Sunshine);
-    };
-    let Ok(count) = observations.degree_days(day_of_year) else {
-        return Err(Word::Sunshine);
-    };
+    first_beyond(observations)?;
+    // Only the sunshine is left to be beyond its limits.
+    let terms = observations.terms(day_of_year).map_err(|_| Word::Sunshine)?;
+    let count = observations
+        .degree_days(day_of_year)
+        .map_err(|_| Word::Sunshine)?;
     Ok(Reckoning {
         day_of_year,
         terms,
@@ -46,8 +39,21 @@ fn place_of(date: u32) -> Result<u32, Word>
     ensures answer { result ≡ (if is_date date then Result.Ok (place_of date) else Result.Err Word.Date) }
     ensures within { IfOk result (λ place. T (day_within place)) }
 {
-    match Date::from_digits(date) {
-        Ok(date) => Ok(date.day_of_year()),
-        Err(_) => Err(Word::Date),
-    }
+    let date = Date::from_digits(date).map_err(|_| Word::Date)?;
+    Ok(date.day_of_year())
+}
+
+// Refused for the first temperature beyond its limits, or else for the first wind.
+fn first_beyond(observations: &Observations) -> Result<(), Word>
+    ensures { result ≡ unless (first_beyond observations.now) tt }
+{
+    let temperature = observations
+        .temperatures
+        .iter()
+        .position(|t| !temperature_within(*t));
+    let wind = observations.winds.iter().position(|w| !wind_within(*w));
+    temperature
+        .map(|i| Word::Temperature(i as u32 + 1))
+        .or(wind.map(|i| Word::Wind(i as u32 + 1)))
+        .map_or(Ok(()), Err)
 }

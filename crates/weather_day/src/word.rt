@@ -1,14 +1,18 @@
 ghost use Rattle.std.specs.Prelude.{◌≡◌};
 ghost use Rattle.weather_day.specs.Words.{place_of_word};
 
-use std::fmt;
+use thiserror::Error;
 
-// A word that tells a day's weather, the temperatures and the winds by their place from 1.
-#[derive(Clone, Copy)]
+// A word that tells a day's weather, the temperatures and the winds by their place from 1; shown with its limits.
+#[derive(Clone, Copy, PartialEq, Eq, Debug, Error)]
 pub enum Word {
+    #[error("the date has to be one from 20010101 to 20991231")]
     Date,
+    #[error("temperature {0} has to be from -200 to 500, in tenths of a degree")]
     Temperature(u32),
+    #[error("wind {0} has to be from 0 to 100, in knots")]
     Wind(u32),
+    #[error("sunshine has to be from 0 to 160, in tenths of an hour")]
     Sunshine,
 }
 
@@ -22,23 +26,6 @@ impl Word {
             Word::Temperature(place) => place as usize,
             Word::Wind(place) => 8 + place as usize,
             Word::Sunshine => 25,
-        }
-    }
-}
-
-// The word and its limits.
-impl fmt::Display for Word {
-    fn fmt<W: fmt::Write>(&self, f: &mut fmt::Formatter<W>) -> fmt::Result {
-        match *self {
-            Word::Date => write!(f, "the date has to be one from 20010101 to 20991231"),
-            Word::Temperature(place) => {
-                write!(
-                    f,
-                    "temperature {place} has to be from -200 to 500, in tenths of a degree"
-                )
-            }
-            Word::Wind(place) => write!(f, "wind {place} has to be from 0 to 100, in knots"),
-            Word::Sunshine => write!(f, "sunshine has to be from 0 to 160, in tenths of an hour"),
         }
     }
 }

@@ -15,20 +15,13 @@ mod tests {
 
     // The place of the word at fault, the date's being 0.
     fn place_at_fault(date: u32, observations: &Observations) -> Option<usize> {
-        match reckon(date, observations) {
-            Ok(_) => None,
-            Err(word) => Some(word.place()),
-        }
+        reckon(date, observations).err().map(Word::place)
     }
 
     #[test]
-    fn a_day_within_its_limits(rt: HostRuntime) -> Result<(), Fail> {
-        let Ok(reckoning) = reckon(20240718, &COLD) else {
-            return Err(Fail::new("at fault"));
-        };
-        assert_eq!(rt; reckoning.day_of_year, 200);
-        assert_eq!(rt; reckoning.count, 1_094);
-        Ok(())
+    fn a_day_within_its_limits(rt: HostRuntime) {
+        let reckoned = reckon(20240718, &COLD).map(|r| (r.day_of_year, r.count));
+        assert_eq!(rt; reckoned, Ok((200, 1_094)));
     }
 
     #[test]
@@ -65,5 +58,28 @@ mod tests {
     fn a_word_and_its_place(rt: HostRuntime) {
         assert_eq!(rt; Word::Temperature(3).place(), 3);
         assert_eq!(rt; Word::Wind(16).place(), 24);
+    }
+
+    #[test]
+    fn a_word_is_shown_with_its_limits(rt: HostRuntime) -> Result<(), Fail> {
+        for (word, shown) in [
+            (
+                Word::Date,
+                "the date has to be one from 20010101 to 20991231",
+            ),
+            (
+                Word::Temperature(3),
+                "temperature 3 has to be from -200 to 500, in tenths of a degree",
+            ),
+            (Word::Wind(16), "wind 16 has to be from 0 to 100, in knots"),
+            (
+                Word::Sunshine,
+                "sunshine has to be from 0 to 160, in tenths of an hour",
+            ),
+        ] {
+            let text = format!(in rt.alloc(); "{word}")?;
+            assert_eq!(rt; text.as_str(), shown);
+        }
+        Ok(())
     }
 }

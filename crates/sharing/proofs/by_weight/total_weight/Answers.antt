@@ -1,14 +1,14 @@
-use Rattle.std.proofs.Common.{ap, ◌∙◌, arith}
-use Rattle.sharing.proofs.Totals.{capped, running_more, running_all}
+use Rattle.std.proofs.Common.{◌≡◌, ◌+◌, fold, sym, refl, ap, ◌∙◌, arith, rules}
+use Rattle.std.proofs.lemmas.List.Folds.{fold_along}
+use Rattle.std.proofs.lemmas.List.Sums.{sum-map}
+use Rattle.sharing.proofs.Totals.{capped}
 use Rattle.sharing.proofs.by_weight.total_weight.Goals as goal
 
-pub loop-row-preserved : goal.loop-row-preserved
-loop-row-preserved g c =
-    omega (
-      arith,
-      running_more g.R.Row.weighs c.args.rows.now _ c.row-item.result c.loop-row-test.true,
-      ap g.R.Row.weighs c.row-item.is,
-    )
-
 pub returns : goal.returns
-returns g c = c.loop-row.invariant ∙ ap capped (running_all g.R.Row.weighs c.args.rows.now _ c.loop-row-test.false)
+returns g c =
+    let w = g.R.Row.weighs in
+    let folded : c.fold.result ≡ fold (λ total row. capped (total + w row)) 0 c.args.rows.now = search rules in
+    folded
+    ∙ fold_along (λ total row. capped (total + w row)) (λ s row. s + w row) (λ total s. total ≡ capped s)
+    (λ total s row e. omega (arith, e)) 0 0 c.args.rows.now refl
+    ∙ ap capped (sym (sum-map w c.args.rows.now))
