@@ -1,6 +1,7 @@
 ghost use Rattle.std.specs.Prelude.{T};
-ghost use Rattle.std.specs.List.{list_all};
-ghost use Rattle.by_weather.specs.Factors.{sound_factors, sound_count};
+ghost use Rattle.estimators.specs.Entries.{entries_pass};
+ghost use Rattle.estimators.specs.Limits.{count_within};
+ghost use Rattle.by_weather.specs.Factors.{factors_within};
 
 use super::factors::Factors;
 use estimators::{DAYS, POINTS};
@@ -8,8 +9,9 @@ use estimators::{DAYS, POINTS};
 // Estimates by each point's factors and each day's degree-day count.
 #[derive(Drop)]
 pub struct ByWeather {
+    // Arrays and no maps: entering factors or a count never allocates.
     pub(crate) factors: [Option<Factors>; POINTS as usize],
     pub(crate) counts: [Option<u32>; DAYS as usize],
-    ghost factors_within: { T (list_all sound_factors factors) },
-    ghost counts_within: { T (list_all sound_count counts) },
+    ghost sound_factors: { T (entries_pass factors_within factors) },
+    ghost sound_counts: { T (entries_pass count_within counts) },
 }

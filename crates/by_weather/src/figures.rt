@@ -8,7 +8,7 @@ ghost use Rattle.by_weather.specs.Laws.{bounded_under, ranged_under};
 
 use super::by_weather::ByWeather;
 use super::factors::Factors;
-use estimators::{DAYS, Estimator, POINTS, Weather, count_within, day_within, point_within};
+use estimators::{DAYS, Estimator, POINTS, Weather, entry_numbered, judge_weather, point_within};
 use refusals::Refusal;
 
 impl ByWeather {
@@ -24,30 +24,19 @@ impl ByWeather {
     }
 
     // Enters the factors of a point. They replace those that it has.
+    #[tactic(auto, using(estimators::proofs::Tables::entered_passes))]
     pub fn enter_factors(&mut self, point: u32, factors: Factors) -> Result<(), Refusal>
-        ensures answer { Answers result (entry_within point factors.base_load factors.sensitivity) tt 3 }
-        ensures factors { self.new.factors ≡ (if entry_within point factors.base_load factors.sensitivity then slice_set self.old.factors (point - 1) (Option.Some factors) else self.old.factors) }
+        ensures answer { Answers result (entry_within point factors) tt 3 }
+        ensures factors { self.new.factors ≡ (if entry_within point factors then slice_set self.old.factors (point - 1) (Option.Some factors) else self.old.factors) }
         ensures counts { self.new.counts ≡ self.old.counts }
-        ensures refused { entry_within point factors.base_load factors.sensitivity ≡ false → self.new ≡ self.old }
+        ensures refused { entry_within point factors ≡ false → self.new ≡ self.old }
     {
         if !point_within(point) || !factors.is_within() {
             return Err(Refusal::BeyondLimits);
         }
+        // An entry changes one element of its own table in place, and nothing allocates: no shared function writes it.
         self.factors[point as usize - 1] = Some(factors);
         Ok(())
-    }
-}
-
-impl ByWeather {
-    // The figure of a point on a day if that were its count.
-    fn estimate(&self, point: u32, day: u32, count: u32) -> Option<u64>
-        ensures { result ≡ figures_under self.now count point day }
-    {
-        if !point_within(point) || !day_within(day) || !count_within(count) {
-            return None;
-        }
-        let factors = self.factors[point as usize - 1]?;
-        Some(factors.figure(count))
     }
 }
 
@@ -59,11 +48,8 @@ impl Estimator for ByWeather {
     ghost ranged = { λ s. Laws.ranged s };
 
     fn figure(&self, point: u32, day: u32) -> Option<u64> {
-        if !day_within(day) {
-            return None;
-        }
-        let entered = self.counts[day as usize - 1]?;
-        self.estimate(point, day, entered)
+        let count = entry_numbered(&self.counts, day)?;
+        self.figure_under(point, day, count)
     }
 }
 
@@ -75,13 +61,15 @@ impl Weather for ByWeather {
     ghost ranged_under = { λ s. ranged_under s };
 
     fn figure_under(&self, point: u32, day: u32, count: u32) -> Option<u64> {
-        self.estimate(point, day, count)
+        judge_weather(day, count).ok()?;
+        let factors = entry_numbered(&self.factors, point)?;
+        Some(factors.figure(count))
     }
 
+    #[tactic(auto, using(estimators::proofs::Tables::entered_passes))]
     fn enter(&mut self, day: u32, count: u32) -> Result<(), Refusal> {
-        if !day_within(day) || !count_within(count) {
-            return Err(Refusal::BeyondLimits);
-        }
+        judge_weather(day, count)?;
+        // In place, as in `enter_factors`.
         self.counts[day as usize - 1] = Some(count);
         Ok(())
     }

@@ -1,6 +1,9 @@
 -- A table all of whose entries pass a test: what is read from it passes, and what passes can be written to it.
-use Rattle.std.proofs.Common.{ℕ, zero, suc, Bool, true, false, ◌&&◌, T, List, [], ◌∷◌, get_or, set}
+use Rattle.std.proofs.Common.{ℕ, zero, suc, ◌-◌, Bool, true, false, ◌&&◌, leb, T, List, [], ◌∷◌, Some, None, Option, get_or, set}
 use Rattle.std.specs.List.{list_all}
+use Rattle.std.specs.Option.{option_map_or}
+use Rattle.std.proofs.lemmas.Bool.{cond_both}
+use Rattle.estimators.specs.Entries.{entry_numbered, entries_pass}
 
 pub both : (a b : Bool) → T a → T b → T (a && b)
 both true b ta tb = tb
@@ -26,3 +29,13 @@ module _ {X : Type 0} (p : X → Bool) where
   written_passes [] i y h t = t
   written_passes (x ∷ xs) zero y h t = both _ _ h (second _ _ t)
   written_passes (x ∷ xs) (suc i) y h t = both _ _ (first _ _ t) (written_passes xs i y h (second _ _ t))
+
+-- the same of entries: each that is read passes, and one that passes can be entered
+module _ {X : Type 0} (test : X → Bool) where
+  pub entry_passes : (last : ℕ) (table : List (Option X)) (number : ℕ) → T (entries_pass test table) → T (option_map_or test (entry_numbered last table number) true)
+  entry_passes last table number t =
+      cond_both (leb 1 number && leb number last) (get_or table (number - 1) None) None (λ entry. T (option_map_or test entry true))
+      (λ _. read_passes (λ entry. option_map_or test entry true) table (number - 1) None tt t) (λ _. tt)
+
+  pub entered_passes : (table : List (Option X)) (i : ℕ) (x : X) → T (test x) → T (entries_pass test table) → T (entries_pass test (set table i (Some x)))
+  entered_passes table i x h t = written_passes (λ entry. option_map_or test entry true) table i (Some x) h t

@@ -1,13 +1,14 @@
 -- What a cap does to the figures below it.
-use Rattle.std.specs.Prelude.{ℕ, ◌-◌, min, Bool, cond, ◌&&◌, List, Some, None, Option, nat_le, slice_index_or, slice_set}
+use Rattle.std.specs.Prelude.{ℕ, ◌-◌, min, Bool, ◌&&◌, List, Some, None, Option, nat_le, slice_set}
 use Rattle.std.specs.Option.{option_map}
-use Rattle.estimators.specs.Limits.{greatest_figure, point_within}
+use Rattle.estimators.specs.Limits.{last_point, greatest_figure, point_within}
+use Rattle.estimators.specs.Entries.{entry_numbered}
 use Rattle.estimators.specs.Meaning.{Meaning}
 use Rattle.estimators.specs.declared.cap.Cap.{Cap}
 
 -- the greatest daily flow of a point, where it has one
 abbrev pub flow_of : List (Option ℕ) → ℕ → Option ℕ
-flow_of flows point = cond (point_within point) (slice_index_or flows (point - 1) None) None
+flow_of flows point = entry_numbered last_point flows point
 
 -- the smaller of a figure and a greatest daily flow; where there is no such flow, the figure
 abbrev pub at_most : Option ℕ → ℕ → ℕ

@@ -1,4 +1,5 @@
 pub mod Limits
+pub mod Entries
 pub mod Meaning
 pub mod Caps
 pub mod Capped

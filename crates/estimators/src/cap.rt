@@ -4,6 +4,7 @@ ghost use Rattle.estimators.specs.Limits.{last_point};
 ghost use Rattle.estimators.specs.Caps.{flow_of, at_most, capped, flow_within, with_flow};
 ghost use Rattle.estimators.specs.Capped.{capped_bounded, capped_ranged, capped_bounded_under, capped_ranged_under};
 
+use super::entries::entry_numbered;
 use super::estimator::{Estimator, Weather};
 use super::limits::{GREATEST_FIGURE, POINTS, point_within};
 use refusals::Refusal;
@@ -12,6 +13,7 @@ use refusals::Refusal;
 #[derive(Drop)]
 pub struct Cap<E> {
     pub below: E,
+    // An array and no map: entering a flow never allocates.
     flows: [Option<u64>; POINTS as usize],
 }
 
@@ -35,6 +37,7 @@ impl<E> Cap<E> {
         if !point_within(point) || flow > GREATEST_FIGURE {
             return Err(Refusal::BeyondLimits);
         }
+        // An entry changes one element of its own table in place, and nothing allocates: no shared function writes it.
         self.flows[point as usize - 1] = Some(flow);
         Ok(())
     }
@@ -43,13 +46,7 @@ impl<E> Cap<E> {
     fn limited(&self, point: u32, figure: u64) -> u64
         ensures { result ≡ at_most (flow_of self.now.flows point) figure }
     {
-        if !point_within(point) {
-            return figure;
-        }
-        match self.flows[point as usize - 1] {
-            Some(flow) => figure.min(flow),
-            None => figure,
-        }
+        entry_numbered(&self.flows, point).map_or(figure, |flow| figure.min(flow))
     }
 }
 

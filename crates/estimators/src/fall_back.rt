@@ -19,6 +19,7 @@ impl<F: Estimator, S: Estimator> Estimator for FallBack<F, S> {
     ghost ranged = { λ s. joined_ranged _ _ (F.Estimator.ranged s.first) (S.Estimator.ranged s.second) };
 
     fn figure(&self, point: u32, day: u32) -> Option<u64> {
+        // A fall-back looks at the first figure by `if let`, and asks the second only where there is none: no `or_else`.
         if let Some(figure) = self.first.figure(point, day) {
             Some(figure)
         } else {
@@ -35,6 +36,7 @@ impl<F: Weather, S: Weather> Weather for FallBack<F, S> {
     ghost ranged_under = { λ s. joined_ranged_under _ _ (F.Weather.ranged_under s.first) (S.Weather.ranged_under s.second) };
 
     fn figure_under(&self, point: u32, day: u32, count: u32) -> Option<u64> {
+        // By `if let`, as in `figure`.
         if let Some(figure) = self.first.figure_under(point, day, count) {
             Some(figure)
         } else {

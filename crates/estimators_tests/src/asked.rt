@@ -1,47 +1,55 @@
 // What an estimator is asked, and what it is to answer.
 use estimators::{Estimator, Weather};
 use refusals::Refusal;
-use std::process::Abort;
+use std::test::Fail;
 
 // The figures of points on days.
 pub(crate) fn figures<E: Estimator>(
-    rt: &impl Abort,
     estimator: &E,
     cases: &[(u32, u32, Option<u64>)],
-) {
-    for (point, day, figure) in cases {
-        assert_eq!(rt; estimator.figure(*point, *day), *figure);
+) -> Result<(), Fail> {
+    for &(point, day, figure) in cases {
+        let given = estimator.figure(point, day);
+        if given != figure {
+            return Err(Fail::new(format_args!(
+                "point {point} on day {day}: {given:?} and not {figure:?}"
+            )));
+        }
     }
+    Ok(())
 }
 
 // The figures of points on days under counts.
 pub(crate) fn figures_under<E: Weather>(
-    rt: &impl Abort,
     estimator: &E,
     cases: &[(u32, u32, u32, Option<u64>)],
-) {
-    for (point, day, count, figure) in cases {
-        assert_eq!(rt; estimator.figure_under(*point, *day, *count), *figure);
+) -> Result<(), Fail> {
+    for &(point, day, count, figure) in cases {
+        let given = estimator.figure_under(point, day, count);
+        if given != figure {
+            return Err(Fail::new(format_args!(
+                "point {point} on day {day} under {count}: {given:?} and not {figure:?}"
+            )));
+        }
     }
+    Ok(())
 }
 
 // Counts of days that are beyond a limit.
 pub(crate) fn weather_refused<E: Weather>(
-    rt: &impl Abort,
     estimator: &mut E,
     cases: &[(u32, u32)],
-) {
-    for (day, count) in cases {
-        refused(rt, estimator.enter(*day, *count));
+) -> Result<(), Fail> {
+    for &(day, count) in cases {
+        refused(estimator.enter(day, count))?;
     }
+    Ok(())
 }
 
 // An entry that is beyond a limit.
-pub(crate) fn refused(rt: &impl Abort, entry: Result<(), Refusal>) {
-    assert!(rt; matches!(entry, Err(Refusal::BeyondLimits)));
-}
-
-// An entry that is accepted.
-pub(crate) fn accepted(rt: &impl Abort, entry: Result<(), Refusal>) {
-    assert!(rt; entry.is_ok());
+pub(crate) fn refused(entry: Result<(), Refusal>) -> Result<(), Fail> {
+    if entry != Err(Refusal::BeyondLimits) {
+        return Err(Fail::new(format_args!("to be beyond limits: {entry:?}")));
+    }
+    Ok(())
 }

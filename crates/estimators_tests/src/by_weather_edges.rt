@@ -1,9 +1,9 @@
-use super::asked::{accepted, figures, figures_under, refused, weather_refused};
+use super::asked::{figures, figures_under, refused, weather_refused};
 use by_weather::{ByWeather, Factors};
 use estimators::Weather;
-use std::process::Abort;
+use std::test::Fail;
 
-const HOUSE: Factors = Factors {
+pub(crate) const HOUSE: Factors = Factors {
     base_load: 12_500,
     sensitivity: 3_000,
 };
@@ -34,19 +34,18 @@ const BEYOND: [(u32, Factors); 4] = [
 ];
 
 // Factors of points 1 and 256.
-fn told(rt: &impl Abort, first: Factors, last: Factors) -> ByWeather {
+fn told(first: Factors, last: Factors) -> Result<ByWeather, Fail> {
     let mut weather = ByWeather::new();
-    accepted(rt, weather.enter_factors(1, first));
-    accepted(rt, weather.enter_factors(256, last));
-    weather
+    weather.enter_factors(1, first)?;
+    weather.enter_factors(256, last)?;
+    Ok(weather)
 }
 
 // 12.5 megajoules and no weather are 13; a point without factors has none, and so has anything beyond a limit.
 #[test]
-fn figures_under_counts(rt: HostRuntime) {
+fn figures_under_counts() -> Result<(), Fail> {
     figures_under(
-        &rt,
-        &told(&rt, HOUSE, LARGEST),
+        &told(HOUSE, LARGEST)?,
         &[
             (1, 1, 1_094, Some(45)),
             (1, 1, 0, Some(13)),
@@ -59,23 +58,21 @@ fn figures_under_counts(rt: HostRuntime) {
             (256, 401, 0, None),
             (256, 0, 0, None),
         ],
-    );
+    )
 }
 
 // A later count replaces the earlier, other days stand, and a refused count leaves what was there.
 #[test]
-fn weather_enters_one_day(rt: HostRuntime) {
-    let mut weather = told(&rt, HOUSE, LARGEST);
-    figures(&rt, &weather, &[(1, 400, None)]);
-    accepted(&rt, weather.enter(400, 1_094));
-    accepted(&rt, weather.enter(400, 20_000));
+fn weather_enters_one_day() -> Result<(), Fail> {
+    let mut weather = told(HOUSE, LARGEST)?;
+    figures(&weather, &[(1, 400, None)])?;
+    weather.enter(400, 1_094)?;
+    weather.enter(400, 20_000)?;
     weather_refused(
-        &rt,
         &mut weather,
         &[(400, 20_001), (401, 0), (0, 0), (400, u32::MAX)],
-    );
+    )?;
     figures(
-        &rt,
         &weather,
         &[
             (1, 400, Some(613)),
@@ -85,32 +82,31 @@ fn weather_enters_one_day(rt: HostRuntime) {
             (257, 400, None),
             (1, 401, None),
         ],
-    );
+    )
 }
 
 // Later factors replace those of their point alone, and refused ones leave what was there.
 #[test]
-fn factors_are_entered_for_one_point(rt: HostRuntime) {
-    let mut weather = told(&rt, HOUSE, HOUSE);
-    accepted(&rt, weather.enter_factors(256, LARGEST));
+fn factors_are_entered_for_one_point() -> Result<(), Fail> {
+    let mut weather = told(HOUSE, HOUSE)?;
+    weather.enter_factors(256, LARGEST)?;
     for (point, factors) in BEYOND {
-        refused(&rt, weather.enter_factors(point, factors));
+        refused(weather.enter_factors(point, factors))?;
     }
     figures_under(
-        &rt,
         &weather,
         &[(1, 1, 1_094, Some(45)), (256, 1, 20_000, Some(300_000))],
-    );
+    )
 }
 
 #[test]
-fn no_sensitivity_still_wants_weather(rt: HostRuntime) {
+fn no_sensitivity_still_wants_weather() -> Result<(), Fail> {
     let steady = Factors {
         base_load: 30_000,
         sensitivity: 0,
     };
-    let mut weather = told(&rt, steady, steady);
-    figures(&rt, &weather, &[(1, 1, None)]);
-    accepted(&rt, weather.enter(1, 0));
-    figures(&rt, &weather, &[(1, 1, Some(30))]);
+    let mut weather = told(steady, steady)?;
+    figures(&weather, &[(1, 1, None)])?;
+    weather.enter(1, 0)?;
+    figures(&weather, &[(1, 1, Some(30))])
 }

@@ -1,37 +1,36 @@
 -- Hot water within its limits gives a figure within its limit.
-use Rattle.std.specs.Prelude.{ℕ, ◌+◌, ◌*◌, ◌/◌, ◌<◌, ◌≤◌, ◌&&◌, T, nat_le}
-use Rattle.std.proofs.Common.{mul-le-mul, div-lt_iff_lt-mul, arith, leb→le}
+use Rattle.std.specs.Prelude.{ℕ, ◌+◌, ◌*◌, ◌/◌, ◌<◌, ◌≤◌, T}
+use Rattle.std.proofs.Common.{mul-le-mul, div-lt_iff_lt-mul, arith}
+use Rattle.std.proofs.lemmas.Bool.Decides.{nat_tests}
 use Rattle.estimators.specs.Limits.{greatest_figure}
-use Rattle.estimators.proofs.Tables.{first, second}
 use Rattle.hot_water.specs.declared.season.Season.{Season}
 use Rattle.hot_water.specs.declared.season.Season.TheVariants.{Cold, Between, Warm}
+use Rattle.hot_water.specs.declared.usage.Usage.{Usage}
 use Rattle.hot_water.specs.Usage.{season_of, reading_weight, day_weight, usage_within, hot_water_figure}
 
--- the products of litres, kilojoules a litre and the two weights, each within what 64 bits hold
-pub record Small (litres days heat reading day : ℕ) : Type 0 where
-  pub energy : litres * heat ≤ 500000000
-  pub read : litres * heat * reading ≤ 3000000000
-  pub whole : litres * heat * reading * day ≤ 12000000000
-  pub some_days : 1 ≤ days
-  pub few_days : days ≤ 400
+-- the products of litres, kilojoules a litre and two weights, each within what 64 bits hold, and the days of a reading
+pub record Small (u : Usage) (reading day : ℕ) : Type 0 where
+  pub energy : u.litres * u.heat ≤ 500000000
+  pub read : u.litres * u.heat * reading ≤ 3000000000
+  pub whole : u.litres * u.heat * reading * day ≤ 12000000000
+  pub some_days : 1 ≤ u.days
+  pub few_days : u.days ≤ 400
 
-pub small : (litres days read heat reading day : ℕ) → T (usage_within litres days read heat) → reading ≤ 6 → day ≤ 4 → Small litres days heat reading day
-small litres days read heat reading day within reading_low day_low =
-    let metered : T (nat_le litres 500000 && (nat_le 1 days && nat_le days 400)) = first _ _ within in
-    let rest : T ((nat_le 1 read && nat_le read 12) && nat_le heat 1000) = second _ _ within in
-    let l : litres ≤ 500000 = leb→le litres 500000 (first _ _ metered) in
-    let n : T (nat_le 1 days && nat_le days 400) = second _ _ metered in
-    let h : heat ≤ 1000 = leb→le heat 1000 (second _ _ rest) in
-    let energy : litres * heat ≤ 500000000 = mul-le-mul {n₂ = 500000} {m₂ = 1000} l h in
-    let read' : litres * heat * reading ≤ 3000000000 = mul-le-mul {n₂ = 500000000} {m₂ = 6} energy reading_low in
+pub small : (u : Usage) (reading day : ℕ) → T (usage_within u) → reading ≤ 6 → day ≤ 4 → Small u reading day
+small u reading day within reading_low day_low =
+    let litres : u.litres ≤ 500000 = grind (arith, nat_tests) in
+    let heat : u.heat ≤ 1000 = grind (arith, nat_tests) in
+    let energy : u.litres * u.heat ≤ 500000000 = mul-le-mul {n₂ = 500000} {m₂ = 1000} litres heat in
+    let read : u.litres * u.heat * reading ≤ 3000000000 = mul-le-mul {n₂ = 500000000} {m₂ = 6} energy reading_low in
     record {
       energy = energy;
-      read = read';
-      whole = mul-le-mul {n₂ = 3000000000} {m₂ = 4} read' day_low;
-      some_days = leb→le 1 days (first _ _ n);
-      few_days = leb→le days 400 (second _ _ n);
+      read = read;
+      whole = mul-le-mul {n₂ = 3000000000} {m₂ = 4} read day_low;
+      some_days = grind (arith, nat_tests);
+      few_days = grind (arith, nat_tests);
     }
 
+-- no weight of a reading is above 6, and none of a day above 4
 reading_at_most : (s : Season) → reading_weight s ≤ 6
 reading_at_most Cold = omega arith
 reading_at_most Between = omega arith
@@ -50,7 +49,9 @@ quotient_bound energy days low some =
     let under : (energy + 6000 * days) / (12000 * days) < 1000001 = (div-lt_iff_lt-mul divisor).1 covered in
     omega arith
 
-pub figure_bound : (litres days read heat month : ℕ) → T (usage_within litres days read heat) → hot_water_figure litres days read heat month ≤ greatest_figure
-figure_bound litres days read heat month within =
-    let s = small litres days read heat (reading_weight (season_of read)) (day_weight (season_of month)) within (reading_at_most (season_of read)) (day_at_most (season_of month)) in
-    quotient_bound (litres * heat * reading_weight (season_of read) * day_weight (season_of month)) days s.whole s.some_days
+pub figure_bound : (u : Usage) (month : ℕ) → T (usage_within u) → hot_water_figure u month ≤ greatest_figure
+figure_bound u month within =
+    let read = reading_weight (season_of u.read_in) in
+    let day = day_weight (season_of month) in
+    let s = small u read day within (reading_at_most (season_of u.read_in)) (day_at_most (season_of month)) in
+    quotient_bound (u.litres * u.heat * read * day) u.days s.whole s.some_days

@@ -1,9 +1,10 @@
 -- What the hot-water estimator means.
-use Rattle.std.specs.Prelude.{ℕ, ◌+◌, ◌-◌, cond, Some, None, Option, nat_lt, slice_index_or}
-use Rattle.std.specs.Option.{option_map, option_flatten}
+use Rattle.std.specs.Prelude.{ℕ, ◌+◌, ◌-◌, cond, Some, None, Option, nat_lt, option_and_then}
+use Rattle.std.specs.Option.{option_map}
 use Rattle.calendar.specs.Gregorian.{days_in_all}
 use Rattle.calendar.specs.Digits.{month_shown, date_numbered}
-use Rattle.estimators.specs.Limits.{point_within, day_within, count_within}
+use Rattle.estimators.specs.Limits.{last_point, day_within, count_within}
+use Rattle.estimators.specs.Entries.{entry_numbered}
 use Rattle.estimators.specs.Meaning.{Meaning}
 use Rattle.hot_water.specs.Usage.{hot_water_figure}
 use Rattle.hot_water.specs.declared.hot_water.HotWater.{HotWater}
@@ -11,7 +12,7 @@ use Rattle.hot_water.specs.declared.usage.Usage.{Usage}
 
 -- the hot water of a point, where it has any
 abbrev pub usage_of : HotWater → ℕ → Option Usage
-usage_of s point = cond (point_within point) (slice_index_or s.usages (point - 1) None) None
+usage_of s point = entry_numbered last_point s.usages point
 
 -- the month of the date that has a day number; after 2099 there is none
 abbrev pub month_numbered : ℕ → Option ℕ
@@ -24,7 +25,7 @@ month_on s day = cond (day_within day) (month_numbered (s.first + (day - 1))) No
 -- the figure of a point by its hot water and the month of the day; a point without hot water, or a day after 2099, has none
 abbrev pub figures : HotWater → Meaning
 figures s point day =
-    option_flatten (option_map (λ month. option_map (λ u. hot_water_figure u.litres u.days u.read_in u.heat month) (usage_of s point)) (month_on s day))
+    option_and_then (λ month. option_map (λ u. hot_water_figure u month) (usage_of s point)) (month_on s day)
 
 -- the same under every count that there can be
 abbrev pub figures_under : HotWater → ℕ → Meaning

@@ -1,5 +1,5 @@
 -- A point's hot water, its limits, and the figure by it.
-use Rattle.std.specs.Prelude.{ℕ, ◌+◌, ◌*◌, ◌/◌, Bool, true, cond, ◌&&◌, ◌||◌, Some, None, Option, ◌==◌, nat_le}
+use Rattle.std.specs.Prelude.{ℕ, ◌+◌, ◌*◌, ◌/◌, Bool, cond, ◌&&◌, ◌||◌, ◌==◌, nat_le}
 use Rattle.estimators.specs.Limits.{point_within}
 use Rattle.hot_water.specs.declared.season.Season.{Season}
 use Rattle.hot_water.specs.declared.season.Season.TheVariants.{Cold, Between, Warm}
@@ -23,22 +23,17 @@ day_weight Cold = 4
 day_weight Between = 3
 day_weight Warm = 2
 
--- the figure in megajoules of so many litres over so many days, last read in one month, at so many kilojoules a litre,
--- for a day in another month: litres × heat × p × q ÷ (12,000 × days), to the nearest, halves up
-abbrev pub hot_water_figure : ℕ → ℕ → ℕ → ℕ → ℕ → ℕ
-hot_water_figure litres days read heat month =
-    (litres * heat * reading_weight (season_of read) * day_weight (season_of month) + 6000 * days) / (12000 * days)
+-- the figure in megajoules by a point's hot water, for a day in a month:
+-- litres × heat × p × q ÷ (12,000 × days), to the nearest, halves up
+abbrev pub hot_water_figure : Usage → ℕ → ℕ
+hot_water_figure u month =
+    (u.litres * u.heat * reading_weight (season_of u.read_in) * day_weight (season_of month) + 6000 * u.days) / (12000 * u.days)
 
 -- litres, days, month of the last reading and kilojoules a litre within their limits
-abbrev pub usage_within : ℕ → ℕ → ℕ → ℕ → Bool
-usage_within litres days read heat =
-    (nat_le litres 500000 && (nat_le 1 days && nat_le days 400)) && ((nat_le 1 read && nat_le read 12) && nat_le heat 1000)
-
--- a point's hot water, where it has any, is within its limits
-abbrev pub sound_usage : Option Usage → Bool
-sound_usage None = true
-sound_usage (Some u) = usage_within u.litres u.days u.read_in u.heat
+abbrev pub usage_within : Usage → Bool
+usage_within u =
+    (nat_le u.litres 500000 && (nat_le 1 u.days && nat_le u.days 400)) && ((nat_le 1 u.read_in && nat_le u.read_in 12) && nat_le u.heat 1000)
 
 -- hot water that can be entered for a point
-abbrev pub entry_within : ℕ → ℕ → ℕ → ℕ → ℕ → Bool
-entry_within point litres days read heat = point_within point && usage_within litres days read heat
+abbrev pub entry_within : ℕ → Usage → Bool
+entry_within point u = point_within point && usage_within u

@@ -10,21 +10,23 @@ ghost use Rattle.hot_water.specs.Laws.{bounded_under, ranged_under};
 use super::hot_water::HotWater;
 use super::usage::Usage;
 use calendar::{Date, day_number_of};
-use estimators::{Estimator, POINTS, Weather, count_within, day_within, point_within};
+use estimators::{
+    Estimator, POINTS, Weather, count_within, day_within, entry_numbered, judge_weather,
+    point_within,
+};
 use refusals::Refusal;
 
 // The month of the day so many days after 1 January 2001, or none after 2099.
 fn month_numbered(number: u32) -> Option<u32>
     ensures { result ≡ month_numbered number }
 {
-    match Date::from_day_number(number) {
-        Ok(date) => Some(date.month()),
-        Err(_) => None,
-    }
+    let date = Date::from_day_number(number).ok()?;
+    Some(date.month())
 }
 
 impl HotWater {
     // No point has hot water yet. Day place 1 is the first date, given by its eight digits.
+    #[tactic(auto, using(calendar::proofs::Order::day_number_below))]
     pub fn new(first_date: u32) -> Result<HotWater, Refusal>
         ensures { AnswersBy result (is_date first_date) (λ h. (h.first ≡ day_number_of first_date) × (h.usages ≡ replicate last_point Option.None)) 4 }
     {
@@ -36,15 +38,17 @@ impl HotWater {
     }
 
     // Enters the hot water of a point. It replaces what the point has.
+    #[tactic(auto, using(estimators::proofs::Tables::entered_passes))]
     pub fn enter_usage(&mut self, point: u32, usage: Usage) -> Result<(), Refusal>
-        ensures answer { Answers result (entry_within point usage.litres usage.days usage.read_in usage.heat) tt 3 }
-        ensures usages { self.new.usages ≡ (if entry_within point usage.litres usage.days usage.read_in usage.heat then slice_set self.old.usages (point - 1) (Option.Some usage) else self.old.usages) }
+        ensures answer { Answers result (entry_within point usage) tt 3 }
+        ensures usages { self.new.usages ≡ (if entry_within point usage then slice_set self.old.usages (point - 1) (Option.Some usage) else self.old.usages) }
         ensures first { self.new.first ≡ self.old.first }
-        ensures refused { entry_within point usage.litres usage.days usage.read_in usage.heat ≡ false → self.new ≡ self.old }
+        ensures refused { entry_within point usage ≡ false → self.new ≡ self.old }
     {
         if !point_within(point) || !usage.is_within() {
             return Err(Refusal::BeyondLimits);
         }
+        // An entry changes one element of its own table in place, and nothing allocates: no shared function writes it.
         self.usages[point as usize - 1] = Some(usage);
         Ok(())
     }
@@ -58,18 +62,6 @@ impl HotWater {
         }
         month_numbered(self.first + (day - 1))
     }
-
-    // The figure of a point on a day, whatever the weather.
-    fn estimate(&self, point: u32, day: u32) -> Option<u64>
-        ensures { result ≡ figures self.now point day }
-    {
-        let month = self.month_on(day)?;
-        if !point_within(point) {
-            return None;
-        }
-        let usage = self.usages[point as usize - 1]?;
-        Some(usage.figure(month))
-    }
 }
 
 impl Estimator for HotWater {
@@ -80,7 +72,9 @@ impl Estimator for HotWater {
     ghost ranged = { λ s. Laws.ranged s };
 
     fn figure(&self, point: u32, day: u32) -> Option<u64> {
-        self.estimate(point, day)
+        let month = self.month_on(day)?;
+        let usage = entry_numbered(&self.usages, point)?;
+        Some(usage.figure(month))
     }
 }
 
@@ -92,18 +86,13 @@ impl Weather for HotWater {
     ghost ranged_under = { λ s. ranged_under s };
 
     fn figure_under(&self, point: u32, day: u32, count: u32) -> Option<u64> {
-        if count_within(count) {
-            self.figure(point, day)
-        } else {
-            None
+        if !count_within(count) {
+            return None;
         }
+        self.figure(point, day)
     }
 
     fn enter(&mut self, day: u32, count: u32) -> Result<(), Refusal> {
-        if day_within(day) && count_within(count) {
-            Ok(())
-        } else {
-            Err(Refusal::BeyondLimits)
-        }
+        judge_weather(day, count)
     }
 }

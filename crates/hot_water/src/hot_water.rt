@@ -1,7 +1,7 @@
 ghost use Rattle.std.specs.Prelude.{◌<◌, T};
-ghost use Rattle.std.specs.List.{list_all};
 ghost use Rattle.calendar.specs.Gregorian.{days_in_all};
-ghost use Rattle.hot_water.specs.Usage.{sound_usage};
+ghost use Rattle.estimators.specs.Entries.{entries_pass};
+ghost use Rattle.hot_water.specs.Usage.{usage_within};
 
 use super::usage::Usage;
 use estimators::POINTS;
@@ -11,7 +11,8 @@ use estimators::POINTS;
 pub struct HotWater {
     // The days from 1 January 2001 to the book's first day.
     pub(crate) first: u32,
+    // An array and no map: entering hot water never allocates.
     pub(crate) usages: [Option<Usage>; POINTS as usize],
     ghost first_within: { first < days_in_all },
-    ghost usages_within: { T (list_all sound_usage usages) },
+    ghost sound_usages: { T (entries_pass usage_within usages) },
 }

@@ -2,7 +2,7 @@ ghost use Rattle.std.specs.Prelude.{◌≡◌, ◌≤◌};
 ghost use Rattle.hot_water.specs.Usage.{season_of, reading_weight, day_weight};
 
 // The seasons of the year, by how much hot water is used in them.
-#[derive(Clone, Copy)]
+#[derive(Clone, Copy, Debug, PartialEq, Eq)]
 pub enum Season {
     Cold,
     Between,
@@ -21,9 +21,10 @@ impl Season {
         }
     }
 
-    // What litres read in the season count for.
+    // What litres read in the season count for. Apart from `day_weight`: one `match` that answers both would be no plainer.
     pub(crate) fn reading_weight(self) -> u64
-        ensures { (result ≡ reading_weight self) × (result ≤ 6) }
+        ensures weight { result ≡ reading_weight self }
+        ensures at_most { result ≤ 6 }
     {
         match self {
             Season::Cold => 3,
@@ -34,7 +35,8 @@ impl Season {
 
     // What a day in the season counts for: 12 in all where the litres were read in the same season.
     pub(crate) fn day_weight(self) -> u64
-        ensures { (result ≡ day_weight self) × (result ≤ 4) }
+        ensures weight { result ≡ day_weight self }
+        ensures at_most { result ≤ 4 }
     {
         match self {
             Season::Cold => 4,

@@ -11,7 +11,7 @@ const MOST_DAYS: u64 = 400;
 const MOST_HEAT: u64 = 1_000;
 
 // The hot water of a point, as it was last metered.
-#[derive(Clone, Copy)]
+#[derive(Clone, Copy, Debug, PartialEq, Eq)]
 pub struct Usage {
     pub litres: u64,
     // The days over which the litres were used.
@@ -25,20 +25,18 @@ pub struct Usage {
 impl Usage {
     // Whether all of it is within its limits.
     pub(crate) fn is_within(self) -> bool
-        ensures { result ≡ usage_within self.litres self.days self.read_in self.heat }
+        ensures { result ≡ usage_within self }
     {
         self.litres <= MOST_LITRES
-            && 1 <= self.days
-            && self.days <= MOST_DAYS
-            && 1 <= self.read_in
-            && self.read_in <= 12
+            && (1..=MOST_DAYS).contains(&self.days)
+            && (1..=12).contains(&self.read_in)
             && self.heat <= MOST_HEAT
     }
 
     // The figure for a day in a month, in megajoules.
     pub(crate) fn figure(self, month: u32) -> u64
-        requires { T (usage_within self.litres self.days self.read_in self.heat) }
-        ensures { result ≡ hot_water_figure self.litres self.days self.read_in self.heat month }
+        requires { T (usage_within self) }
+        ensures { result ≡ hot_water_figure self month }
     {
         let reading = Season::of_month(self.read_in).reading_weight();
         let day = Season::of_month(month).day_weight();
