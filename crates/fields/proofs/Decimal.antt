@@ -1,5 +1,5 @@
 -- A number as it is printed is its digits with no leading zero. Assumes nothing.
-use Rattle.std.proofs.Common.{◌≡◌, ℕ, suc, ◌+◌, ◌-◌, ◌*◌, ◌/◌, ◌%◌, ◌^◌, ◌<◌, ◌≤◌, true, ◌⊎◌, List, [], ◌∷◌, ◌++◌, length, decimal, refl, ap, ◌∙◌, ⊎_elim, add-one, arith, lit<}
+use Rattle.std.proofs.Common.{◌≡◌, ℕ, zero, suc, ◌+◌, ◌-◌, ◌*◌, ◌/◌, ◌%◌, ◌^◌, ◌<◌, ◌≤◌, true, ◌⊎◌, List, [], ◌∷◌, ◌++◌, length, Some, None, Option, IfSome, IfNone, unwrap_or, decimal, sym, refl, ap, ◌∙◌, ⊎_elim, add-one, arith, lit<}
 use native.Mathlib.Nat.{pow-succ', pow-le-pow_right}
 use Rattle.std.proofs.lemmas.Fmt.{decimal_by_steps, decimal_digit, decimal_step}
 use Rattle.std.proofs.lemmas.List.{length_push}
@@ -69,3 +69,16 @@ fewer j k n l p e f =
 pub digits_unique : (j k n : ℕ) → n < 10 ^ j → n < 10 ^ k → plain j n ≡ true → plain k n ≡ true → j ≡ k
 digits_unique j k n p q e f =
     ⊎_elim (λ same. same) (⊎_elim (λ l. absurd (fewer j k n l p e f)) (λ l. absurd (fewer k j n l q f e))) (cases_order j k)
+
+-- one digit more than the power of ten that a number reaches
+power_reached : (k n : ℕ) → n < 2 ^ 64 → 10 ^ k ≤ n → n < 10 * 10 ^ k → length (decimal n) ≡ k + 1
+power_reached zero n small low high = length_one n (omega arith)
+power_reached (suc k) n small low high =
+    let s = shown n small in
+    let below : n < 10 ^ suc (suc k) = rw pow-succ' (omega arith) in
+    let before : suc (suc k) - 1 ≡ suc k = omega arith in
+    digits_unique _ _ n s.below below s.no_zero (plain_by (suc (suc k)) n (omega arith) (rw before low)) ∙ sym (add-one (suc k))
+
+pub counted : (n : ℕ) (log : Option ℕ) → n < 2 ^ 64 → IfNone log (n ≡ 0) → IfSome log (λ k. 10 ^ k ≤ n) → IfSome log (λ k. n < 10 * 10 ^ k) → unwrap_or log 0 + 1 ≡ length (decimal n)
+counted n None small none low high = sym (length_one n (omega arith))
+counted n (Some k) small none low high = sym (power_reached k n small low high)

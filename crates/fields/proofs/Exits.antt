@@ -1,9 +1,7 @@
--- The exit of a `?`: what is refused there is malformed. Assumes nothing.
-use Rattle.std.proofs.Common.{◌≡◌, ℕ, Bool, true, T, List, is_err, IsErrAnd, Ok, Err, Result, ap, ◌∙◌}
-use Rattle.refusals.specs.Numbers.{number_of}
-use Rattle.refusals.specs.declared.refusal.Refusal.{Refusal}
-use Rattle.fields.specs.Reads.{Reads}
+-- The exit of a `?`. Assumes nothing.
+use Rattle.std.proofs.Common.{◌≡◌, true, is_err, IsErrAnd, Ok, Err, Result, sym, subst}
 
-pub broken : {X : Type 0} (fits : X → Bool) (writing : X → List ℕ) (bytes : List ℕ) (r : Result X Refusal) (e : Refusal) → (is_err r ≡ true) × IsErrAnd r (λ y. y ≡ e) → number_of e ≡ 1 → ((x : X) → T (fits x) → bytes ≡ writing x → ⊥) → Reads fits writing bytes r
-broken fits writing bytes (Ok x) e p n none = absurd p.1
-broken fits writing bytes (Err y) e p n none = (ap number_of p.1 ∙ n, none)
+-- what holds of an error holds of the result that a `?` returns with it
+pub at_exit : {X E : Type 0} (P : Result X E → Type 0) (r : Result X E) (e : E) → (is_err r ≡ true) × IsErrAnd r (λ y. y ≡ e) → P (Err e) → P r
+at_exit P (Ok x) e p holds = absurd p.1
+at_exit P (Err y) e p holds = subst (λ z. P (Err z)) (sym p.1) holds

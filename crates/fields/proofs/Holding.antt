@@ -1,68 +1,70 @@
 -- Each kind of field holds texts of one sort. Assumes nothing.
-use Rattle.std.proofs.Common.{◌≡◌, ℕ, zero, suc, ◌+◌, ◌-◌, ◌^◌, ◌<◌, ◌≤◌, Bool, true, false, cond, not, ◌&&◌, T, eqb, List, ◌++◌, length, ℤ, pos, negsuc, neg_ℤ, nat_abs, ◌≤ℤ◌, is_err, IsErrAnd, Ok, Err, decimal, Result, sym, refl, ap, ◌∙◌, subst, arith, lit<, ltb→lt, lt→ltb}
+use Rattle.std.proofs.Common.{◌≡◌, ℕ, zero, suc, ◌+◌, ◌-◌, ◌^◌, ◌<◌, ◌≤◌, Bool, true, false, cond, not, ◌&&◌, T, eqb, ◌++◌, length, ℤ, pos, negsuc, neg_ℤ, nat_abs, ◌≤ℤ◌, Some, None, Option, is_some, IfSome, decimal, sym, refl, ap, ◌∙◌, subst, arith, lit<, ltb→lt, lt→ltb}
 use native.Mathlib.Nat.{pow-le-pow_right}
 use lib.Dec.{leb-suc-zero}
-use lib.Signed.{lt_z}
+use lib.Signed.{lt_z, le_z, le_z_yes}
+use Rattle.std.specs.Bool.{then_some}
 use Rattle.std.proofs.lemmas.Int.{ints}
 use Rattle.std.proofs.lemmas.Fmt.{length-decimal-le}
 use Rattle.std.proofs.lemmas.Bool.{both_ways, lt-ltb, and_parts, and_from, not-true, eqb-true, false≢true}
 use Rattle.std.proofs.lemmas.Bool.Decides.{nat_tests}
-use Rattle.refusals.specs.Answers.{Answers}
-use Rattle.refusals.specs.Numbers.{number_of}
-use Rattle.refusals.specs.declared.refusal.Refusal.{Refusal}
-use Rattle.refusals.specs.declared.refusal.Refusal.TheVariants.{MalformedLine}
-use Rattle.fields.specs.Reads.{Reads}
+use Rattle.fields.specs.Kinds.{Kind, Held, fits, columns, number, signed, date, blank}
 use Rattle.fields.specs.Columns.{right_aligned, number_columns, signed_columns, date_columns, blank_columns, number_fits, signed_fits, date_fits}
-use Rattle.fields.specs.Texts.{sign, columns_of, text_columns, text_fits, plain, plain_text, number_text, signed_text, signed_value, date_text, dated, blank_text}
+use Rattle.fields.specs.Texts.{sign, columns_of, text_columns, text_fits, plain, plain_text, number_text, signed_text, signed_value, date_text, dated, blank_text, empty}
+use Rattle.fields.specs.FieldTexts.{TextReadAs}
 use Rattle.fields.specs.declared.text.Text.{Text}
-use Rattle.fields.proofs.Exits.{broken}
+use Rattle.fields.specs.declared.field_text.FieldText.{FieldText}
 use Rattle.fields.proofs.Placing.{parts_of_fit}
 use Rattle.fields.proofs.Decimal.{shown, digits_unique}
 use Rattle.fields.proofs.Scanning.{length_columns, same_text}
 
 -- what is written of a value that fits is the columns of a text of the sort, and each text of the sort is of such a value
-pub record Sort {X : Type 0} (fits : X → Bool) (writing : X → List ℕ) (sort : Text → Bool) (value : Text → X) : Type 0 where
-  pub text : X → Text
-  pub room : (x : X) → T (fits x) → T (text_fits (text x))
-  pub columns : (x : X) → T (fits x) → writing x ≡ text_columns (text x)
-  pub sorted : (x : X) → T (fits x) → sort (text x) ≡ true
-  pub back : (x : X) → value (text x) ≡ x
-  pub found : (t : Text) → T (text_fits t) → sort t ≡ true → T (fits (value t)) × (text_columns t ≡ writing (value t))
+pub record Sort (k : Kind) (sort : Text → Bool) (value : Text → Held k) (text : Held k → Text) : Type 0 where
+  pub room : (x : Held k) → T (fits k x) → T (text_fits (text x))
+  pub written : (x : Held k) → T (fits k x) → columns k x ≡ text_columns (text x)
+  pub sorted : (x : Held k) → T (fits k x) → sort (text x) ≡ true
+  pub back : (x : Held k) → value (text x) ≡ x
+  pub found : (t : Text) → T (text_fits t) → sort t ≡ true → T (fits k (value t)) × (text_columns t ≡ columns k (value t))
 
-module _ {X : Type 0} {fits : X → Bool} {writing : X → List ℕ} {sort : Text → Bool} {value : Text → X} (s : Sort fits writing sort value) (bytes : List ℕ) where
-  -- bytes that are no text are no writing
-  pub no_text : (r : Result X Refusal) (e : Refusal) → (is_err r ≡ true) × IsErrAnd r (λ y. y ≡ e) → (number_of e ≡ 1) × ((t : Text) → T (text_fits t) → bytes ≡ text_columns t → ⊥) → Reads fits writing bytes r
-  no_text r e p q = broken fits writing bytes r e p q.0 (λ x h f. q.1 (s.text x) (s.room x h) (f ∙ s.columns x h))
+module _ {k : Kind} {sort : Text → Bool} {value : Text → Held k} {text : Held k → Text} (s : Sort k sort value text) where
+  -- a text of the sort is the writing of its value
+  pub of_sort : {X : Type 0} (held : X → Held k) (t : FieldText) (x : X) → true ≡ sort t.text → held x ≡ value t.text → TextReadAs k held t (Some x)
+  of_sort held t x e same =
+      subst (λ y. T (fits k y) × (text_columns t.text ≡ columns k y)) (sym same) (s.found t.text t.fits (sym e))
 
-  -- nor is a text of another sort
-  pub other_sort : (t : Text) → T (text_fits t) × (bytes ≡ text_columns t) → false ≡ sort t → Reads fits writing bytes (Err MalformedLine)
-  other_sort t (room, here) other = (
-    refl,
-    λ x h e.
-        let same : t ≡ s.text x = same_text t (s.text x) room (s.room x h) (sym here ∙ e ∙ s.columns x h) in
-        both_ways (sort t) (sym other) (ap sort same ∙ s.sorted x h),
-  )
+  -- a text of another sort is the writing of nothing
+  pub other_sort : {X : Type 0} (held : X → Held k) (t : FieldText) → false ≡ sort t.text → TextReadAs k held t None
+  other_sort held t other =
+      λ x h e.
+      let same : t.text ≡ text x = same_text t.text (text x) t.fits (s.room x h) (e ∙ s.written x h) in
+      both_ways (sort t.text) (sym other) (ap sort same ∙ s.sorted x h)
 
-  -- one of the sort is
-  pub of_sort : (t : Text) (x : X) → x ≡ value t → T (text_fits t) × (bytes ≡ text_columns t) → true ≡ sort t → T (fits x) × (bytes ≡ writing x)
-  of_sort t x same (room, here) e =
-      let q = s.found t room (sym e) in
-      subst (λ y. T (fits y) × (bytes ≡ writing y)) (sym same) (q.0, here ∙ q.1)
+  pub by_sort : {X : Type 0} (held : X → Held k) (t : FieldText) (b : Bool) (x : X) (r : Option X) → b ≡ sort t.text → held x ≡ value t.text → r ≡ then_some b x → TextReadAs k held t r
+  by_sort held t true x r e same is = subst (TextReadAs k held t) (sym is) (of_sort held t x e same)
+  by_sort held t false x r e same is = subst (TextReadAs k held t) (sym is) (other_sort held t e)
 
--- what is written has ten columns, and tells the value
-module _ {X : Type 0} {fits : X → Bool} {writing : X → List ℕ} {sort : Text → Bool} {value : Text → X} (s : Sort fits writing sort value) where
-  pub ten_columns : (x : X) → T (fits x) → length (writing x) ≡ 10
-  ten_columns x h = ap length (s.columns x h) ∙ length_columns (s.text x) (s.room x h)
+  pub by_test : {X : Type 0} (held : X → Held k) (t : FieldText) (b : Bool) (r : Option X) → b ≡ sort t.text → is_some r ≡ b → IfSome r (λ x. held x ≡ value t.text) → TextReadAs k held t r
+  by_test held t b (Some x) e some same = of_sort held t x (some ∙ e) same
+  by_test held t b None e some same = other_sort held t (some ∙ e)
 
-  pub told_by_columns : (x y : X) → T (fits x) → T (fits y) → writing x ≡ writing y → x ≡ y
-  told_by_columns x y h k e =
-      let same : s.text x ≡ s.text y = same_text (s.text x) (s.text y) (s.room x h) (s.room y k) (sym (s.columns x h) ∙ e ∙ s.columns y k) in
+  -- a value that fits is written as its text, which ten columns hold
+  pub has_room : (x : Held k) (t : Text) → fits k x ≡ true → t ≡ text x → T (text_fits t)
+  has_room x t e same = subst (λ u. T (text_fits u)) (sym same) (s.room x (subst T (sym e) tt))
+
+  pub written_as : (x : Held k) (t : Text) → fits k x ≡ true → t ≡ text x → (fits k x ≡ true) × (text_columns t ≡ columns k x)
+  written_as x t e same = (e, ap text_columns same ∙ sym (s.written x (subst T (sym e) tt)))
+
+  pub stands : (x : Held k) → T (fits k x) → (t : Text) × T (text_fits t) × (columns k x ≡ text_columns t)
+  stands x h = (text x, s.room x h, s.written x h)
+
+  -- what is written has ten columns, and tells the value
+  pub ten_columns : (x : Held k) → T (fits k x) → length (columns k x) ≡ 10
+  ten_columns x h = ap length (s.written x h) ∙ length_columns (text x) (s.room x h)
+
+  pub told_by_columns : (x y : Held k) → T (fits k x) → T (fits k y) → columns k x ≡ columns k y → x ≡ y
+  told_by_columns x y h j e =
+      let same : text x ≡ text y = same_text (text x) (text y) (s.room x h) (s.room y j) (sym (s.written x h) ∙ e ∙ s.written y j) in
       sym (s.back x) ∙ ap value same ∙ s.back y
-
--- what is written of a value that fits, and of no other
-pub written : {X : Type 0} (b : Bool) (x v : X) (n : ℕ) → b ≡ true → x ≡ v → Answers (Ok x) b v n
-written true x v n e same = same
-written false x v n e same = absurd (false≢true e)
 
 -- a text has at most ten digits
 small_value : (t : Text) → T (text_fits t) → t.value < 10 ^ 10
@@ -122,11 +124,10 @@ number_found t room e =
     let unsigned = not-true t.minus p.0 in
     (fit, ap text_columns (plain_found t room p.1) ∙ ap (λ m. text_columns (plain_text m t.value)) unsigned ∙ sym (number_same t.value fit))
 
-pub number_sort : Sort number_fits number_columns number_text (λ t. t.value)
+pub number_sort : Sort number number_text (λ t. t.value) (plain_text false)
 number_sort = record {
-  text = plain_text false;
   room = number_room;
-  columns = number_same;
+  written = number_same;
   sorted = number_sorted;
   back = λ n. refl;
   found = number_found;
@@ -142,9 +143,14 @@ unfolding signed_plain
 signed_plain_is (pos n) = ap (λ m. plain_text m n) (leb-suc-zero n)
 signed_plain_is (negsuc n) = refl
 
-pub signed_limits : (z : ℤ) → negsuc 999999998 ≤ℤ z → z ≤ℤ pos 9999999999 → signed_fits z ≡ true
-signed_limits (pos n) low high = lt-ltb n (10 ^ 10) (omega (arith, ints))
-signed_limits (negsuc n) low high = lt-ltb (suc n) (10 ^ 9) (omega (arith, ints))
+within_limits : (z : ℤ) → negsuc 999999998 ≤ℤ z → z ≤ℤ pos 9999999999 → signed_fits z ≡ true
+within_limits (pos n) low high = lt-ltb n (10 ^ 10) (omega (arith, ints))
+within_limits (negsuc n) low high = lt-ltb (suc n) (10 ^ 9) (omega (arith, ints))
+
+pub signed_limits : (z : ℤ) → true ≡ (le_z (negsuc 999999998) z && le_z z (pos 9999999999)) → signed_fits z ≡ true
+signed_limits z e =
+    let parts = and_parts (le_z (negsuc 999999998) z) (le_z z (pos 9999999999)) (sym e) in
+    within_limits z (le_z_yes (rw parts.0 tt)) (le_z_yes (rw parts.1 tt))
 
 pub signed_room : (z : ℤ) → T (signed_fits z) → T (text_fits (signed_plain z))
 unfolding signed_plain
@@ -187,11 +193,10 @@ signed_found t room e =
     let q = found_at t.minus t.value (subst (λ u. T (text_fits u)) same room) p.1 in
     (q.0, ap text_columns same ∙ q.1)
 
-pub signed_sort : Sort signed_fits signed_columns signed_text signed_value
+pub signed_sort : Sort signed signed_text signed_value signed_plain
 signed_sort = record {
-  text = signed_plain;
   room = signed_room;
-  columns = signed_same;
+  written = signed_same;
   sorted = signed_sorted;
   back = signed_back;
   found = signed_found;
@@ -214,39 +219,35 @@ date_found t room e =
     let fit = parts_of_fit (dated t.value) (subst (λ u. T (text_fits u)) same room) in
     (lt→ltb t.value (10 ^ 8) fit.0, ap text_columns same ∙ sym (date_same t.value))
 
-pub date_sort : Sort date_fits date_columns date_text (λ t. t.value)
+pub date_sort : Sort date date_text (λ t. t.value) dated
 date_sort = record {
-  text = dated;
   room = date_room;
-  columns = λ n h. date_same n;
+  written = λ n h. date_same n;
   sorted = λ n h. refl;
   back = λ n. refl;
   found = date_found;
 }
 
--- an unused field
-empty : ℕ → Text
-empty n = record { minus = false; digits = 0; value = n }
+-- an unused field, whatever number is kept of it
+abbrev unused : ℕ → Text
+unused n = record { minus = false; digits = 0; value = n }
 
-blank_same : (n : ℕ) → blank_columns ≡ text_columns (empty n)
-unfolding columns_of empty
-blank_same n = refl
+unused_same : (n : ℕ) → blank_columns ≡ text_columns (unused n)
+unfolding columns_of
+unused_same n = refl
 
 blank_found : (t : Text) → blank_text t ≡ true → text_columns t ≡ blank_columns
-unfolding empty
 blank_found t e =
     let p = and_parts (not t.minus) (eqb t.digits 0) e in
     let unsigned = not-true t.minus p.0 in
     let none = eqb-true t.digits 0 p.1 in
-    let same : t ≡ empty t.value = λ i. record { minus = unsigned i; digits = none i; value = t.value } in
-    ap text_columns same ∙ sym (blank_same t.value)
+    let same : t ≡ unused t.value = λ i. record { minus = unsigned i; digits = none i; value = t.value } in
+    ap text_columns same ∙ sym (unused_same t.value)
 
-pub blank_sort : Sort {X = Unit {0}} (λ _. true) (λ _. blank_columns) blank_text (λ _. tt)
-unfolding empty
+pub blank_sort : Sort blank blank_text (λ _. tt) (λ _. empty)
 blank_sort = record {
-  text = λ _. empty 0;
   room = λ _ h. tt;
-  columns = λ _ h. blank_same 0;
+  written = λ _ h. unused_same 0;
   sorted = λ _ h. refl;
   back = λ _. refl;
   found = λ t room e. (tt, blank_found t e);

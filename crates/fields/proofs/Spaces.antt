@@ -1,13 +1,30 @@
 -- Laws of leading spaces. Assumes nothing.
-use Rattle.std.proofs.Common.{◌≡◌, ℕ, zero, suc, ◌+◌, ◌<◌, List, ◌++◌, length, get_or, take, drop, replicate, sym, refl, ap, ◌∙◌}
-use Rattle.std.proofs.lemmas.List.{take_more, take-append-drop, replicate_more}
+use Rattle.std.proofs.Common.{◌≡◌, ℕ, zero, suc, ◌+◌, ◌≤◌, Bool, true, false, cond, not, eqb, ltb, List, [], ◌∷◌, ◌++◌, length, get_or, drop, replicate, Some, None, Option, unwrap_or, sym, refl, ap, arith}
+use Rattle.std.specs.List.{position_or_len}
+use Rattle.std.proofs.lemmas.Bool.{eqb-true}
+use Rattle.std.proofs.lemmas.Bool.Decides.{nat_tests}
+use Rattle.std.proofs.lemmas.List.Sums.{prefix_len-le-length}
 
--- one more space
-pub front_more : (xs : List ℕ) (i : ℕ) → i < length xs → take i xs ≡ replicate i 32 → get_or xs i 0 ≡ 32 → take (i + 1) xs ≡ replicate (i + 1) 32
-front_more xs i h e s = take_more xs i 0 h ∙ rw (e, s) (replicate_more i 32)
+-- how many spaces stand before the first other byte
+abbrev before_other : List ℕ → ℕ
+before_other xs = position_or_len (λ b. not (eqb b 32)) xs
 
-pub front_all : (xs : List ℕ) (r : ℕ) → take r xs ≡ replicate r 32 → xs ≡ replicate r 32 ++ drop r xs
-front_all xs r e = sym (take-append-drop r xs) ∙ ap (λ p. p ++ drop r xs) e
+one_before : (b : Bool) (x n : ℕ) (xs : List ℕ) → (b ≡ true → x ≡ 32) → xs ≡ replicate n 32 ++ drop n xs → x ∷ xs ≡ replicate (cond (not (not b)) (1 + n) 0) 32 ++ drop (cond (not (not b)) (1 + n) 0) (x ∷ xs)
+one_before true x n xs space e =
+    let more : 1 + n ≡ suc n = omega arith in
+    let same = space refl in
+    rw (more, same) (ap (λ ys. 32 ∷ ys) e)
+one_before false x n xs space e = refl
+
+pub spaces_first : (xs : List ℕ) → xs ≡ replicate (before_other xs) 32 ++ drop (before_other xs) xs
+spaces_first [] = refl
+spaces_first (x ∷ xs) = one_before (eqb x 32) x (before_other xs) xs (eqb-true x 32) (spaces_first xs)
+
+unwrapped : (i n : ℕ) → i ≤ n → unwrap_or (cond (ltb i n) (Some i) None) n ≡ i
+unwrapped i n h = grind (arith, nat_tests)
+
+pub spaces_found : (xs : List ℕ) (r : Option ℕ) → r ≡ cond (ltb (before_other xs) (length xs)) (Some (before_other xs)) None → unwrap_or r (length xs) ≡ before_other xs
+spaces_found xs r e = rw e (unwrapped (before_other xs) (length xs) (prefix_len-le-length _ xs))
 
 -- spaces before what begins with none can be told apart from it
 pub spaces_apart : (a b : ℕ) (xs ys : List ℕ) → (get_or xs 0 0 ≡ 32 → ⊥) → (get_or ys 0 0 ≡ 32 → ⊥) → replicate a 32 ++ xs ≡ replicate b 32 ++ ys → (a ≡ b) × (xs ≡ ys)

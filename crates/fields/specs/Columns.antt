@@ -1,8 +1,6 @@
 -- How a value stands in its columns.
 use Rattle.std.specs.Prelude.{ℕ, zero, suc, ◌+◌, ◌-◌, ◌/◌, ◌%◌, ◌^◌, Bool, List, [], ◌∷◌, ◌++◌, length, replicate, ℤ, pos, negsuc, nat_lt}
 use Rattle.std.specs.Fmt as written
-use Rattle.readings.specs.declared.ReadingType.{ReadingType}
-use Rattle.readings.specs.declared.ReadingType.TheVariants.{Actual, Substituted, Estimated, CustomersOwn}
 
 -- a text at the right of ten columns, spaces before it
 abbrev pub right_aligned : List ℕ → List ℕ
@@ -28,13 +26,6 @@ date_columns n = right_aligned (digits_kept 8 n)
 -- an unused field: spaces
 abbrev pub blank_columns : List ℕ
 blank_columns = replicate 10 32
-
--- the letter of each type of reading: A, S, E, C
-abbrev pub letter_of : ReadingType → ℕ
-letter_of Actual = 65
-letter_of Substituted = 83
-letter_of Estimated = 69
-letter_of CustomersOwn = 67
 
 -- the numbers that fit ten columns
 abbrev pub number_fits : ℕ → Bool

@@ -51,3 +51,7 @@ plain_text minus n = record { minus = minus; digits = length (decimal n); value 
 -- the text of a date
 abbrev pub dated : ℕ → Text
 dated n = record { minus = false; digits = 8; value = n }
+
+-- the text of an unused field
+abbrev pub empty : Text
+empty = record { minus = false; digits = 0; value = 0 }

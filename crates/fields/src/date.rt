@@ -1,20 +1,28 @@
-ghost use Rattle.std.specs.Prelude.{◌≡◌};
-ghost use Rattle.refusals.specs.Answers.{Answers};
-ghost use Rattle.fields.specs.Columns.{date_columns, date_fits};
-ghost use Rattle.fields.specs.Reads.{Reads};
+ghost use Rattle.std.specs.Prelude.{◌≡◌, refl};
+ghost use Rattle.fields.specs.Kinds.{date};
 ghost use Rattle.fields.specs.Texts.{date_text, dated};
 
+use super::field_text::FieldText;
 use super::text::Text;
-use refusals::Refusal;
+use super::value::FieldValue;
+
+// The largest number of eight digits.
+const MOST: u32 = 99_999_999;
+
+// The eight digits of a date, whether or not there is such a date.
+#[derive(Clone, Copy, PartialEq, Eq, Debug)]
+pub struct EightDigits(pub u32);
+
+impl FieldText {
+    // Whether the text is eight digits. One line, as in `is_blank`: a function of the count would be no plainer.
+    fn is_date(&self) -> bool
+        ensures { result ≡ date_text self.now.text }
+    {
+        !self.text.minus && self.text.digits == 8
+    }
+}
 
 impl Text {
-    // Whether the text is eight digits.
-    fn is_date(&self) -> bool
-        ensures { result ≡ date_text self.now }
-    {
-        !self.minus && self.digits == 8
-    }
-
     // The text of a date.
     fn eight_digits(date: u32) -> Text
         ensures { result ≡ dated date }
@@ -27,24 +35,23 @@ impl Text {
     }
 }
 
-// The eight digits of the date in a field, whether or not there is such a date.
-pub fn read_date(columns: &[u8]) -> Result<u32, Refusal>
-    ensures { Reads date_fits date_columns columns.now result }
-{
-    let text = Text::scan(columns)?;
-    if !text.is_date() {
-        return Err(Refusal::MalformedLine);
-    }
-    Ok(text.value as u32)
-}
+impl FieldValue for EightDigits {
+    ghost kind = { date };
 
-// The field of a date.
-pub fn write_date(date: u32) -> Result<[u8; 10], Refusal>
-    ensures { Answers result (date_fits date) (date_columns date) 3 }
-{
-    if date > 99_999_999 {
-        return Err(Refusal::BeyondLimits);
+    ghost held = { λ d. d.0 };
+
+    ghost ten_columns = { refl };
+
+    fn from_text(text: FieldText) -> Option<EightDigits> {
+        text.is_date().then(|| EightDigits(text.text.value as u32))
     }
-    let text = Text::eight_digits(date);
-    Ok(text.columns())
+
+    fn to_text(self) -> Option<FieldText> {
+        if self.0 > MOST {
+            return None;
+        }
+        Some(FieldText {
+            text: Text::eight_digits(self.0),
+        })
+    }
 }

@@ -1,33 +1,24 @@
 ghost use Rattle.std.specs.Prelude.{◌≡◌, true, [], ◌∷◌};
-ghost use Rattle.fields.specs.Columns as columns;
+ghost use Rattle.readings.specs.Letters as letters;
 ghost use Rattle.fields.specs.Reads.{Reads};
 
 use readings::ReadingType;
 use refusals::Refusal;
 
+// Functions: neither the type of a reading nor u8 is this crate's, so it can write no `TryFrom` between them.
+
 // The type that a letter stands for.
 pub fn type_of_letter(letter: u8) -> Result<ReadingType, Refusal>
-    ensures { Reads (λ _. true) (λ t. columns.letter_of t ∷ []) (letter ∷ []) result }
+    ensures { Reads (λ _. true) (λ t. letters.letter_of t ∷ []) (letter ∷ []) result }
 {
-    match char::from(letter) {
-        'A' => Ok(ReadingType::Actual),
-        'S' => Ok(ReadingType::Substituted),
-        'E' => Ok(ReadingType::Estimated),
-        'C' => Ok(ReadingType::CustomersOwn),
-        _ => Err(Refusal::MalformedLine),
-    }
+    ReadingType::try_from(char::from(letter)).map_err(|_| Refusal::MalformedLine)
 }
 
 // The letter of a type.
 pub fn letter_of(reading_type: ReadingType) -> u8
-    ensures { result ≡ columns.letter_of reading_type }
+    ensures { result ≡ letters.letter_of reading_type }
 {
-    match reading_type {
-        ReadingType::Actual => b'A',
-        ReadingType::Substituted => b'S',
-        ReadingType::Estimated => b'E',
-        ReadingType::CustomersOwn => b'C',
-    }
+    char::from(reading_type) as u8
 }
 
 // The letter's column where no letter stands.

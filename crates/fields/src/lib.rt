@@ -3,13 +3,15 @@
 
 mod blank;
 mod date;
+mod field_text;
 mod letter;
 mod number;
 mod signed;
 mod text;
+mod value;
 
-pub use blank::{read_blank, write_blank};
-pub use date::{read_date, write_date};
+pub use blank::{Blank, write_blank};
+pub use date::EightDigits;
+pub use field_text::FieldText;
 pub use letter::{letter_of, read_no_letter, type_of_letter};
-pub use number::{read_number, write_number};
-pub use signed::{read_signed, write_signed};
+pub use value::FieldValue;

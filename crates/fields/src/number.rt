@@ -1,40 +1,41 @@
-ghost use Rattle.std.specs.Prelude.{◌≡◌, T};
-ghost use Rattle.refusals.specs.Answers.{Answers};
-ghost use Rattle.fields.specs.Columns.{number_columns, number_fits};
-ghost use Rattle.fields.specs.Reads.{Reads};
-ghost use Rattle.fields.specs.Texts.{text_fits, number_text};
+ghost use Rattle.std.specs.Prelude.{◌≡◌, refl};
+ghost use Rattle.fields.specs.Kinds.{number};
+ghost use Rattle.fields.specs.Texts.{number_text};
 
+use super::field_text::FieldText;
 use super::text::Text;
-use refusals::Refusal;
+use super::value::FieldValue;
 
-impl Text {
+// The largest number of ten digits.
+const MOST: u64 = 9_999_999_999;
+
+impl FieldText {
     // Whether the text is a number with no leading zero.
     fn is_number(&self) -> bool
-        requires { T (text_fits self.now) }
-        ensures { result ≡ number_text self.now }
+        ensures { result ≡ number_text self.now.text }
     {
-        !self.minus && self.is_plain()
+        !self.text.minus && self.is_plain()
     }
 }
 
-// The number in a field.
-pub fn read_number(columns: &[u8]) -> Result<u64, Refusal>
-    ensures { Reads number_fits number_columns columns.now result }
-{
-    let text = Text::scan(columns)?;
-    if !text.is_number() {
-        return Err(Refusal::MalformedLine);
-    }
-    Ok(text.value)
-}
+// A number.
+impl FieldValue for u64 {
+    ghost kind = { number };
 
-// The field of a number.
-pub fn write_number(value: u64) -> Result<[u8; 10], Refusal>
-    ensures { Answers result (number_fits value) (number_columns value) 3 }
-{
-    if value > 9_999_999_999 {
-        return Err(Refusal::BeyondLimits);
+    ghost held = { λ n. n };
+
+    ghost ten_columns = { refl };
+
+    fn from_text(text: FieldText) -> Option<u64> {
+        text.is_number().then_some(text.text.value)
     }
-    let text = Text::plain(false, value);
-    Ok(text.columns())
+
+    fn to_text(self) -> Option<FieldText> {
+        if self > MOST {
+            return None;
+        }
+        Some(FieldText {
+            text: Text::plain(false, self),
+        })
+    }
 }

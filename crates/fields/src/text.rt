@@ -1,13 +1,14 @@
-ghost use Rattle.std.specs.Prelude.{◌≡◌, ◌^◌, ◌≤◌, T, ◌++◌, length, drop, replicate, decimal, ◌==◌, ◌≢◌, nat_lt, slice_index};
+ghost use Rattle.std.specs.Prelude.{◌≡◌, ◌^◌, ◌≤◌, ◌++◌, length, drop, replicate, decimal, ◌==◌, ◌≢◌, nat_lt, slice_index};
 ghost use Rattle.fields.specs.Columns.{digits_kept};
 ghost use Rattle.fields.specs.Reads.{Reads};
-ghost use Rattle.fields.specs.Texts.{text_fits, text_columns, plain, plain_text};
+ghost use Rattle.fields.specs.Texts.{text_fits, text_columns, plain_text};
 
 use refusals::Refusal;
 
 // What stands in a field behind its leading spaces: digits, perhaps after a minus.
-#[derive(Clone, Copy)]
+#[derive(Clone, Copy, PartialEq, Eq, Debug)]
 pub(crate) struct Text {
+    // A sign and no i64: the text of minus zero is another than that of zero.
     pub(crate) minus: bool,
     pub(crate) digits: usize,
     pub(crate) value: u64,
@@ -19,32 +20,24 @@ fn leading_spaces(bytes: &[u8]) -> usize
     ensures spaces { bytes.now ≡ replicate result 32 ++ drop result bytes.now }
     ensures past { slice_index bytes.now result ≢ 32 }
 {
-    for (i, byte) in bytes.iter().enumerate() {
-        if *byte != b' ' {
-            return i;
-        }
-    }
-    bytes.len()
+    bytes
+        .iter()
+        .position(|byte| *byte != b' ')
+        .unwrap_or(bytes.len())
 }
 
 // Whether the first byte is a minus.
 fn begins_with_minus(bytes: &[u8]) -> bool
     ensures { result ≡ (slice_index bytes.now 0 == 45) }
 {
-    !bytes.is_empty() && bytes[0] == b'-'
+    bytes.first() == Some(&b'-')
 }
 
 // How many digits a number has, with no leading zero.
 fn digit_count(value: u64) -> usize
     ensures { result ≡ length (decimal value) }
 {
-    let mut digits = 1;
-    let mut rest = value;
-    while rest >= 10 {
-        rest /= 10;
-        digits += 1;
-    }
-    digits
+    value.checked_ilog10().unwrap_or(0) as usize + 1
 }
 
 // The number that the digits write; malformed where a byte is no digit.
@@ -52,6 +45,7 @@ fn digits_value(bytes: &[u8]) -> Result<u64, Refusal>
     requires { length bytes.now ≤ 10 }
     ensures { Reads (λ v. nat_lt v (10 ^ length bytes.now)) (digits_kept (length bytes.now)) bytes.now result }
 {
+    // A loop: `parse` takes a sign, and `try_fold` was no plainer.
     let mut value: u64 = 0;
     for byte in bytes {
         if !byte.is_ascii_digit() {
@@ -64,6 +58,7 @@ fn digits_value(bytes: &[u8]) -> Result<u64, Refusal>
 
 impl Text {
     // The text of a field of ten columns: spaces, perhaps a minus, and digits to the end.
+    // A slice: columns of another length are answered too, as malformed.
     pub(crate) fn scan(columns: &[u8]) -> Result<Text, Refusal>
         ensures { Reads text_fits text_columns columns.now result }
     {
@@ -81,18 +76,6 @@ impl Text {
         })
     }
 
-    // Whether there is a digit, and no leading zero.
-    pub(crate) fn is_plain(&self) -> bool
-        requires { T (text_fits self.now) }
-        ensures { result ≡ plain self.now.digits self.now.value }
-    {
-        match self.digits {
-            0 => false,
-            1 => true,
-            digits => 10u64.pow(digits as u32 - 1) <= self.value,
-        }
-    }
-
     // The text of a number with no leading zero.
     pub(crate) fn plain(negative: bool, value: u64) -> Text
         ensures { result ≡ plain_text negative value }
@@ -102,22 +85,5 @@ impl Text {
             digits: digit_count(value),
             value,
         }
-    }
-
-    // The ten columns of a text.
-    pub(crate) fn columns(&self) -> [u8; 10]
-        requires { T (text_fits self.now) }
-        ensures { result ≡ text_columns self.now }
-    {
-        let mut columns = [b' '; 10];
-        let mut rest = self.value;
-        for at in (10 - self.digits..10).rev() {
-            columns[at] = b'0' + (rest % 10) as u8;
-            rest /= 10;
-        }
-        if self.minus {
-            columns[9 - self.digits] = b'-';
-        }
-        columns
     }
 }

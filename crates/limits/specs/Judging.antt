@@ -7,11 +7,6 @@ use Rattle.records.specs.declared.record.Record.{Record}
 use Rattle.limits.specs.Dates.{dates_exist}
 use Rattle.limits.specs.Numbers.{numbers_within}
 use Rattle.limits.specs.declared.limits.Limits.{Limits}
-use Rattle.limits.specs.declared.passes.Passes.{Passes}
-
--- which of the fields pass a check, in their order
-abbrev pub passing : Passes → List Bool
-passing p = p.first ∷ p.second ∷ p.third ∷ p.fourth ∷ []
 
 -- the number and the column of a refusal
 abbrev pub told : Result (Unit {0}) Fault → Option (ℕ × ℕ)

@@ -1,12 +1,11 @@
 ghost use Rattle.std.specs.Prelude.{◌≡◌, ◌+◌, Some};
 ghost use Rattle.refusals.specs.Numbers.{number_of};
 ghost use Rattle.lines.specs.Parts.{start};
-ghost use Rattle.limits.specs.Judging.{passing, told, refused_by, verdict};
+ghost use Rattle.limits.specs.Judging.{told, refused_by, verdict};
 
 use super::dates::dates_exist;
 use super::limits::Limits;
 use super::numbers::numbers_within;
-use super::passes::Passes;
 use lines::{Fault, Field};
 use records::Record;
 use refusals::Refusal;
@@ -21,20 +20,17 @@ fn refused(refusal: Refusal, field: Field) -> Result<(), Fault>
     })
 }
 
-// Refuses the leftmost field that does not pass.
-fn passed(fields: Passes, refusal: Refusal) -> Result<(), Fault>
-    ensures { told result ≡ refused_by (number_of refusal) (passing fields) }
+// Refuses the leftmost of the four fields that does not pass.
+// Four flags and no `Result`: all numbers are judged before any date, and the leftmost of each is named.
+fn passed(fields: [bool; 4], refusal: Refusal) -> Result<(), Fault>
+    ensures { told result ≡ refused_by (number_of refusal) fields }
 {
-    if !fields.first {
-        refused(refusal, Field::First)
-    } else if !fields.second {
-        refused(refusal, Field::Second)
-    } else if !fields.third {
-        refused(refusal, Field::Third)
-    } else if !fields.fourth {
-        refused(refusal, Field::Fourth)
-    } else {
-        Ok(())
+    match fields {
+        [false, ..] => refused(refusal, Field::First),
+        [_, false, ..] => refused(refusal, Field::Second),
+        [_, _, false, _] => refused(refusal, Field::Third),
+        [_, _, _, false] => refused(refusal, Field::Fourth),
+        _ => Ok(()),
     }
 }
 

@@ -6,7 +6,6 @@ mod dates;
 mod limits;
 mod line;
 mod numbers;
-mod passes;
 
 pub use check::check_limits;
 pub use limits::Limits;

@@ -6,9 +6,12 @@ use super::limits::Limits;
 use lines::{Fault, read_line};
 use records::Record;
 use refusals::{Layer, Refusal};
+use thiserror::Error;
 
 // A fault with the number of its line and the layer that met it.
-#[derive(Clone, Copy)]
+// The layer follows from the refusal and is a field even so: a line is reported, and promised, with all four.
+#[derive(Clone, Copy, PartialEq, Eq, Debug, Error)]
+#[error("line {line}: layer {}, refusal {}, column {column}", .layer.number(), .refusal.number())]
 pub struct LineFault {
     pub line: u64,
     pub layer: Layer,
@@ -20,15 +23,12 @@ pub struct LineFault {
 pub fn on_line<X: Drop>(line: u64, answer: Result<X, Fault>) -> Result<X, LineFault>
     ensures { result ≡ placed_on line answer }
 {
-    match answer {
-        Ok(value) => Ok(value),
-        Err(fault) => Err(LineFault {
-            line,
-            layer: fault.refusal.layer(),
-            refusal: fault.refusal,
-            column: fault.column,
-        }),
-    }
+    answer.map_err(|Fault { refusal, column }| LineFault {
+        line,
+        layer: refusal.layer(),
+        refusal,
+        column,
+    })
 }
 
 // The record that the bytes of a line say, where they are well formed and it is within limits.

@@ -20,6 +20,7 @@ const LAST_NUMBER: u64 = 9_999_999_999;
 fn main(rt: HostRuntime) -> io::Result<()> {
     let mut input = BufReader::new(rt.alloc(), rt.stdin())?;
     let mut line = Vec::new(rt.alloc());
+    // Counted, since nothing says that a reader ends.
     for count in 1..u64::MAX {
         line.clear();
         if input.read_until(b'\n', &mut line)? == 0 {
@@ -28,13 +29,7 @@ fn main(rt: HostRuntime) -> io::Result<()> {
         let number = count.min(LAST_NUMBER);
         match check_line(number, line.as_slice(), LIMITS) {
             Ok(record) => println!(rt; "line {number}: {}", Words(record))?,
-            Err(fault) => {
-                let number = fault.line;
-                let layer = fault.layer.number();
-                let refusal = fault.refusal.number();
-                let column = fault.column;
-                println!(rt; "line {number}: layer {layer}, refusal {refusal}, column {column}")?;
-            }
+            Err(fault) => println!(rt; "{fault}")?,
         }
     }
     Ok(())

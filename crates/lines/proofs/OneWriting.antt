@@ -1,17 +1,16 @@
 -- A record has one writing, and a writing is of one record. Assumes nothing.
-use Rattle.std.proofs.Common.{◌≡◌, ℕ, ◌+◌, ◌-◌, Bool, true, false, cond, ◌&&◌, T, eqb, List, [], ◌∷◌, ◌++◌, map, length, get_or, take, drop, ℤ, pos, is_err, IsErrAnd, IfErr, Ok, Err, Result, sym, refl, ap, ◌∙◌, subst, append_assoc, arith, length-append}
+use Rattle.std.proofs.Common.{◌≡◌, ℕ, ◌+◌, ◌-◌, Bool, true, false, cond, ◌&&◌, T, eqb, List, [], ◌∷◌, ◌++◌, map, length, get_or, take, drop, ℤ, pos, IfErr, Ok, Err, Result, sym, refl, ap, ◌∙◌, subst, append_assoc, arith, length-append}
 use mathlib.Core.List.{head-eq_of_cons-eq, tail-eq_of_cons-eq}
 use Rattle.std.specs.List.{flat_map}
 use Rattle.std.proofs.lemmas.List.{take_at, drop_at, drop-drop, length_push, get_or_push}
 use Rattle.std.proofs.lemmas.Bool.{both_ways, and_from, eq-eqb}
-use Rattle.refusals.specs.Numbers.{number_of}
 use Rattle.fields.specs.Kinds.{Kind, Held, width, fits, columns, number, signed, date, blank, reading_type, no_letter}
 use Rattle.readings.specs.declared.ReadingType.{ReadingType}
 use Rattle.readings.specs.declared.ReadingType.TheVariants.{Actual}
 use Rattle.fields.proofs.KindLaws.{length_columns, told}
-use Rattle.lines.specs.Parts.{Part, part, parts, Leftmost, Stands, here, further}
-use Rattle.lines.specs.Reading.{LineRead, RecordRead, WrittenAgain, AtFault, wrong_length, unknown_tag, wrong_part}
-use Rattle.records.specs.Records.{Cell, cell, cells, unused, tag_of, all_fit, record_fits, written}
+use Rattle.lines.specs.Parts.{Part, part, parts, Leftmost, Stands, Standing, none, next, here, further}
+use Rattle.lines.specs.Reading.{LineRead, CellsRead, AtFault, wrong_length, unknown_tag, wrong_part}
+use Rattle.records.specs.Records.{Cell, cell, cells, unused, tag_of, all_fit, line_of, record_fits, written}
 use Rattle.records.specs.Tags.{tag_bytes, layout}
 use Rattle.lines.specs.Whole.{whole, fed}
 use Rattle.lines.specs.declared.fault.Fault.{Fault}
@@ -19,7 +18,7 @@ use Rattle.records.specs.declared.record.Record.{Record}
 use Rattle.records.specs.declared.record.Record.TheVariants as of
 use Rattle.records.specs.declared.tag.Tag.{Tag}
 use Rattle.records.specs.declared.tag.Tag.TheVariants.{Open, Fact, Enrl, Gate, Intv, Degd, Read}
-use Rattle.lines.proofs.Pieces.{Standing, none, next, widths}
+use Rattle.lines.proofs.Pieces.{widths, assembled}
 
 abbrev columns_of : Cell → List ℕ
 columns_of c = columns c.kind c.value
@@ -241,19 +240,12 @@ pub one_column : (bytes : List ℕ) (r : Result Record Fault) → LineRead bytes
 one_column bytes (Ok x) p = tt
 one_column bytes (Err f) p = λ c a. fault_once bytes c f.column a p.1
 
--- how a line comes to be read: refused at the exit of a `?`, or by what its record was read as
-pub line_refused : (bytes : List ℕ) (r : Result Record Fault) (f : Fault) → (is_err r ≡ true) × IsErrAnd r (λ y. y ≡ f) → number_of f.refusal ≡ 1 → AtFault bytes f.column → LineRead bytes r
-line_refused bytes (Ok x) f p n a = absurd p.1
-line_refused bytes (Err y) f p n a = subst (λ g. LineRead bytes (Err g)) (sym p.1) (n, a)
-
-line_same : (t : Tag) (line : List ℕ) (r : Result Record Fault) → whole line ≡ true → take 4 line ≡ tag_bytes t → RecordRead t line r → LineRead line r
-line_same t line (Ok x) w tag p = p
+-- how a line comes to be read: by what its record was read as
+line_same : (t : Tag) (line : List ℕ) (r : Result Record Fault) → whole line ≡ true → take 4 line ≡ tag_bytes t → CellsRead t line r → LineRead line r
+line_same t line (Ok x) w tag p =
+    let joined = assembled t line w tag p.1 (wide x) in
+    (joined.0, joined.1 ∙ ap (λ u. line_of u (cells x)) (sym p.0))
 line_same t line (Err f) w tag p = (p.refusal, wrong_part t w tag p.column)
 
-pub line_read : (bytes : List ℕ) (t : Tag) (line : List ℕ) (r : Result Record Fault) → (line ≡ bytes) × (whole bytes ≡ true) → take 4 line ≡ tag_bytes t → RecordRead t line r → LineRead bytes r
-line_read bytes t line r (same, w) tag p =
-    subst (λ b. LineRead b r) same (line_same t line r (subst (λ b. whole b ≡ true) (sym same) w) tag p)
-
-pub again_refused : (bytes : List ℕ) (r : Result (Record × List ℕ) Fault) (f : Fault) → (is_err r ≡ true) × IsErrAnd r (λ y. y ≡ f) → LineRead bytes (Err f) → WrittenAgain bytes r
-again_refused bytes (Ok x) f p q = absurd p.1
-again_refused bytes (Err y) f p q = subst (λ g. WrittenAgain bytes (Err g)) (sym p.1) q
+pub line_read : (bytes : List ℕ) (t : Tag) (line : List ℕ) (r : Result Record Fault) → line ≡ bytes → whole line ≡ true → take 4 line ≡ tag_bytes t → CellsRead t line r → LineRead bytes r
+line_read bytes t line r same w tag p = subst (λ b. LineRead b r) same (line_same t line r w tag p)

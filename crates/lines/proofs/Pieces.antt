@@ -1,23 +1,21 @@
 -- The parts of a line, read one by one. Assumes nothing.
-use Rattle.std.proofs.Common.{◌≡◌, ℕ, ◌+◌, ◌-◌, Bool, true, false, ◌&&◌, T, eqb, List, [], ◌∷◌, ◌++◌, length, get_or, take, drop, is_err, IsErrAnd, Ok, Err, Result, sym, ap, ◌∙◌, subst, append_assoc, add-zero, add_assoc, arith}
+use Rattle.std.proofs.Common.{◌≡◌, ℕ, ◌+◌, ◌-◌, Bool, true, false, ◌&&◌, T, eqb, List, [], ◌∷◌, ◌++◌, length, get_or, take, drop, Ok, Err, Result, sym, ap, ◌∙◌, subst, append_assoc, add-zero, add_assoc, arith}
 use Rattle.std.specs.List.{flat_map}
 use Rattle.std.proofs.lemmas.List.{take-append-drop, drop-drop, drop_more, drop_all}
 use Rattle.std.proofs.lemmas.Bool.{and_parts, eqb-true}
 use Rattle.refusals.specs.declared.refusal.Refusal.{Refusal}
 use Rattle.fields.specs.Kinds.{Kind, Held, width, fits, columns, blank, no_letter}
-use Rattle.fields.specs.Reads.{Reads}
-use Rattle.lines.specs.Parts.{Part, part, parts, Leftmost, Stands, Malformed, PartRead, RestRead, fault_at, here, further}
-use Rattle.lines.specs.Reading.{RecordRead}
-use Rattle.records.specs.Records.{Cell, cell, all_fit, line_of}
-use Rattle.records.specs.Tags.{tag_bytes, layout}
+use Rattle.fields.specs.Reads.{Reads, ReadAs}
+use Rattle.lines.specs.Parts.{Part, part, Leftmost, Stands, Malformed, PartRead, PartReadAs, RestRead, fault_at, Standing, none, next, here, further}
+use Rattle.records.specs.Records.{Cell, all_fit, line_of}
+use Rattle.records.specs.Tags.{tag_bytes}
 use Rattle.lines.specs.Whole.{whole, fed}
 use Rattle.lines.specs.declared.fault.Fault.{Fault}
-use Rattle.records.specs.declared.record.Record.{Record}
 use Rattle.records.specs.declared.tag.Tag.{Tag}
 
 first : {p : Part} {ps : List Part} {c : ℕ} → Leftmost (p ∷ []) c → Leftmost (p ∷ ps) c
 first (here e bad) = here e bad
-first (further good none) = elim none [ ]
+first (further good more) = elim more [ ]
 
 T_and : (x y : Bool) → T x → T y → T (x && y)
 T_and true y p q = q
@@ -31,29 +29,33 @@ pub past : {p : Part} {x : Held p.kind} {ps : List Part} {f : Fault} → Stands 
 past {p} {x} s m = record { refusal = m.refusal; column = further (x, s.fit, s.written) m.column }
 
 -- what is read of a part's bytes, with its column, is read of the part
+pub part_read_as : {X : Type 0} (p : Part) (held : X → Held p.kind) (bytes : List ℕ) (c : ℕ) (q : Result X Refusal) (r : Result X Fault) → bytes ≡ p.bytes → c ≡ p.column → ReadAs p.kind held bytes q → r ≡ fault_at c q → PartReadAs p held r
+part_read_as p held bytes c (Ok x) r same start read e =
+    subst (PartReadAs p held) (sym e) (record { fit = read.0; written = sym same ∙ read.1 })
+part_read_as p held bytes c (Err f) r same start read e =
+    subst (PartReadAs p held) (sym e) (record { refusal = read.0; column = here start (λ good. read.1 good.0 good.1 (same ∙ good.2)) })
+
+-- the same of a field of ten columns
+pub field_read : {X : Type 0} (k : Kind) (held : X → Held k) → width k ≡ 10 → (line : List ℕ) (start : ℕ) (bytes : List ℕ) (c : ℕ) (q : Result X Refusal) (r : Result X Fault) → bytes ≡ take 10 (drop start line) → c ≡ start + 1 → ReadAs k held bytes q → r ≡ fault_at c q → PartReadAs (part k start line) held r
+field_read k held ten line start bytes c q r same column read e =
+    part_read_as (part k start line) held bytes c q r (same ∙ ap (λ n. take n (drop start line)) (sym ten)) column read e
+
+-- the same where the value is what it holds
+read_as_itself : (k : Kind) (bytes : List ℕ) (q : Result (Held k) Refusal) → Reads (fits k) (columns k) bytes q → ReadAs k (λ x. x) bytes q
+read_as_itself k bytes (Ok x) read = read
+read_as_itself k bytes (Err e) read = read
+
 pub part_read : (p : Part) (bytes : List ℕ) (c : ℕ) (q : Result (Held p.kind) Refusal) (r : Result (Held p.kind) Fault) → bytes ≡ p.bytes → c ≡ p.column → Reads (fits p.kind) (columns p.kind) bytes q → r ≡ fault_at c q → PartRead p r
-part_read p bytes c (Ok x) r same start read e =
-    subst (PartRead p) (sym e) (record { fit = read.0; written = sym same ∙ read.1 })
-part_read p bytes c (Err f) r same start read e =
-    subst (PartRead p) (sym e) (record { refusal = read.0; column = here start (λ good. read.1 good.0 good.1 (same ∙ good.2)) })
+part_read p bytes c q r same start read e =
+    part_read_as p (λ x. x) bytes c q r same start (read_as_itself p.kind bytes q read) e
 
 -- the letter's column
 pub letter_piece : (line : List ℕ) → length line ≡ 46 → get_or line 44 0 ∷ [] ≡ take 1 (drop 44 line)
 letter_piece line h = ap (take 1) (sym (drop_more line 44 0 (omega arith)))
 
--- the exit of a `?`
-pub refused : (t : Tag) (line : List ℕ) (r : Result Record Fault) (f : Fault) → (is_err r ≡ true) × IsErrAnd r (λ y. y ≡ f) → Malformed (parts (layout t) 4 line) f → RecordRead t line r
-refused t line (Ok x) f p m = absurd p.1
-refused t line (Err y) f p m = subst (λ g. RecordRead t line (Err g)) (sym p.1) m
-
 -- the bytes from n on, cut behind the next k
 cut : (line : List ℕ) (n k : ℕ) (xs : List ℕ) → take k (drop n line) ≡ xs → drop n line ≡ xs ++ drop (n + k) line
 cut line n k xs e = sym (take-append-drop k (drop n line)) ∙ rw (e, drop-drop)
-
--- the cells stand one behind the other from n on
-pub data Standing (line : List ℕ) : ℕ → List Cell → Type 0 where
-  none : {n : ℕ} → Standing line n []
-  next : {n : ℕ} {k : Kind} {x : Held k} {cs : List Cell} → Stands (part k n line) x → Standing line (n + width k) cs → Standing line n (cell k x ∷ cs)
 
 -- how many columns they take
 abbrev pub widths : List Cell → ℕ
@@ -84,10 +86,6 @@ assembled t line {cs} h tag s w =
     (stand_fit s, sym start ∙ rw (tag, rest, more, end))
 
 -- the fourth field and the letter
-pub rest_refused : (line : List ℕ) (r : Result (Unit {0}) Fault) (f : Fault) → (is_err r ≡ true) × IsErrAnd r (λ y. y ≡ f) → Malformed (parts (blank ∷ no_letter ∷ []) 34 line) f → RestRead line r
-rest_refused line (Ok x) f p m = absurd p.1
-rest_refused line (Err y) f p m = subst (λ g. RestRead line (Err g)) (sym p.1) m
-
 pub rest_read : (line : List ℕ) (r : Result (Unit {0}) Fault) → Stands (part blank 34 line) tt → PartRead (part no_letter 44 line) r → RestRead line r
 rest_read line (Ok x) s p = (s, p)
 rest_read line (Err f) s p = past s p

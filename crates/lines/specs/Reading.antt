@@ -1,18 +1,18 @@
 -- How a line is read, and where it is at fault.
 use Rattle.std.specs.Prelude.{◌≡◌, ℕ, true, false, T, List, take, Ok, Err, Result, ◌≢◌}
 use Rattle.refusals.specs.Numbers.{number_of}
-use Rattle.lines.specs.Parts.{parts, Leftmost, Malformed}
-use Rattle.records.specs.Records.{record_fits, written}
+use Rattle.lines.specs.Parts.{parts, Leftmost, Malformed, Standing}
+use Rattle.records.specs.Records.{cells, tag_of, record_fits, written}
 use Rattle.records.specs.Tags.{tag_bytes, layout}
 use Rattle.lines.specs.Whole.{whole, past_end}
 use Rattle.lines.specs.declared.fault.Fault.{Fault}
 use Rattle.records.specs.declared.record.Record.{Record}
 use Rattle.records.specs.declared.tag.Tag.{Tag}
 
--- a line of this tag is read as the record that it is the writing of, or its leftmost part at fault is named
-abbrev pub RecordRead : Tag → List ℕ → Result Record Fault → Type 0
-RecordRead t line (Ok r) = T (record_fits r) × (line ≡ written r)
-RecordRead t line (Err f) = Malformed (parts (layout t) 4 line) f
+-- what the tag asks for is read as a record of this tag whose cells stand in the line, or the leftmost part at fault is named
+abbrev pub CellsRead : Tag → List ℕ → Result Record Fault → Type 0
+CellsRead t line (Ok r) = (tag_of r ≡ t) × Standing line 4 (cells r)
+CellsRead t line (Err f) = Malformed (parts (layout t) 4 line) f
 
 -- c is the column at fault: of a wrong length, of an unknown tag, or of the leftmost part that is not what the tag asks for
 pub data AtFault (line : List ℕ) (c : ℕ) : Type 0 where

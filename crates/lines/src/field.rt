@@ -1,13 +1,13 @@
 ghost use Rattle.std.specs.Prelude.{◌≡◌, ◌+◌, take, drop};
 ghost use Rattle.lines.specs.Parts.{start};
 
-// One of the four fields of ten columns.
-#[derive(Clone, Copy)]
+// One of the four fields of ten columns, by the number of columns before it.
+#[derive(Clone, Copy, PartialEq, Eq, Debug)]
 pub enum Field {
-    First,
-    Second,
-    Third,
-    Fourth,
+    First = 4,
+    Second = 14,
+    Third = 24,
+    Fourth = 34,
 }
 
 impl Field {
@@ -15,23 +15,14 @@ impl Field {
     pub fn column(self) -> u8
         ensures { result ≡ start self + 1 }
     {
-        match self {
-            Field::First => 5,
-            Field::Second => 15,
-            Field::Third => 25,
-            Field::Fourth => 35,
-        }
+        self as u8 + 1
     }
 
     // The ten columns of a field.
     pub(crate) fn columns(self, line: &[u8; 46]) -> &[u8]
         ensures { result.now ≡ take 10 (drop (start self) line.now) }
     {
-        match self {
-            Field::First => &line[4..14],
-            Field::Second => &line[14..24],
-            Field::Third => &line[24..34],
-            Field::Fourth => &line[34..44],
-        }
+        let start = self as usize;
+        &line[start..start + 10]
     }
 }

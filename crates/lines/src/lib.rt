@@ -3,10 +3,10 @@
 
 mod fault;
 mod field;
+mod line;
 mod parts;
 mod read;
 mod round_trip;
-mod whole;
 
 pub use fault::Fault;
 pub use field::Field;

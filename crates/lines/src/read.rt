@@ -1,142 +1,130 @@
-ghost use Rattle.std.specs.Prelude.{◌≡◌, ℕ, true, T, take, IfErr, Ok};
-ghost use Rattle.lines.specs.Reading.{RecordRead, LineRead, AtFault};
+ghost use Rattle.std.specs.Prelude.{◌≡◌, ℕ, T, IfErr, Ok};
+ghost use Rattle.lines.specs.Parts.{ThreeRead};
+ghost use Rattle.lines.specs.Reading.{CellsRead, LineRead, AtFault};
 ghost use Rattle.records.specs.Records.{record_fits, written};
-ghost use Rattle.records.specs.Tags.{tag_bytes};
-ghost use Rattle.lines.specs.Whole.{whole};
 ghost use Rattle.records.specs.declared.tag.Tag.TheVariants.{Open, Fact, Enrl, Gate, Intv, Degd, Read};
 
 use super::fault::Fault;
 use super::field::Field;
-use super::parts::{blank, date, number, reading_type, rest_unused, signed, tag_of};
-use super::whole::whole_line;
+use super::line::Line;
+use fields::{Blank, EightDigits, FieldValue};
 use records::{
     DegreeDays, Enrolment, Factors, GateDay, IntervalEnergy, Opening, Reading, Record, Tag,
 };
 
-// A line with the tag OPEN.
-fn opening(line: &[u8; 46]) -> Result<Record, Fault>
-    requires { (whole line.now ≡ true) × (take 4 line.now ≡ tag_bytes Open) }
-    ensures { RecordRead Open line.now result }
-{
-    let first_date = date(line, Field::First)?;
-    let days = number(line, Field::Second)?;
-    let unaccounted = number(line, Field::Third)?;
-    rest_unused(line)?;
-    Ok(Record::Opening(Opening {
-        first_date,
-        days,
-        unaccounted,
-    }))
-}
+impl Line {
+    // The values in the first three fields of a line whose rest is unused.
+    fn three<X: FieldValue + Drop, Y: FieldValue + Drop, Z: FieldValue + Drop>(
+        &self,
+    ) -> Result<(X, Y, Z), Fault>
+        ensures { ThreeRead X.kind Y.kind Z.kind X.held Y.held Z.held self.now.bytes result }
+    {
+        let first = self.field(Field::First)?;
+        let second = self.field(Field::Second)?;
+        let third = self.field(Field::Third)?;
+        self.unused_rest()?;
+        Ok((first, second, third))
+    }
 
-// A line with the tag FACT.
-fn factors(line: &[u8; 46]) -> Result<Record, Fault>
-    requires { (whole line.now ≡ true) × (take 4 line.now ≡ tag_bytes Fact) }
-    ensures { RecordRead Fact line.now result }
-{
-    let point = number(line, Field::First)?;
-    let base_load = number(line, Field::Second)?;
-    let sensitivity = number(line, Field::Third)?;
-    rest_unused(line)?;
-    Ok(Record::Factors(Factors {
-        point,
-        base_load,
-        sensitivity,
-    }))
-}
+    // A line with the tag OPEN.
+    fn opening(&self) -> Result<Record, Fault>
+        ensures { CellsRead Open self.now.bytes result }
+    {
+        let (EightDigits(first_date), days, unaccounted) = self.three()?;
+        Ok(Record::Opening(Opening {
+            first_date,
+            days,
+            unaccounted,
+        }))
+    }
 
-// A line with the tag ENRL.
-fn enrolment(line: &[u8; 46]) -> Result<Record, Fault>
-    requires { (whole line.now ≡ true) × (take 4 line.now ≡ tag_bytes Enrl) }
-    ensures { RecordRead Enrl line.now result }
-{
-    let point = number(line, Field::First)?;
-    let retailer = number(line, Field::Second)?;
-    let start = date(line, Field::Third)?;
-    rest_unused(line)?;
-    Ok(Record::Enrolment(Enrolment {
-        point,
-        retailer,
-        start,
-    }))
-}
+    // A line with the tag FACT.
+    fn factors(&self) -> Result<Record, Fault>
+        ensures { CellsRead Fact self.now.bytes result }
+    {
+        let (point, base_load, sensitivity) = self.three()?;
+        Ok(Record::Factors(Factors {
+            point,
+            base_load,
+            sensitivity,
+        }))
+    }
 
-// A line with the tag GATE.
-fn gate_day(line: &[u8; 46]) -> Result<Record, Fault>
-    requires { (whole line.now ≡ true) × (take 4 line.now ≡ tag_bytes Gate) }
-    ensures { RecordRead Gate line.now result }
-{
-    let day = date(line, Field::First)?;
-    let energy_in = number(line, Field::Second)?;
-    let energy_out = number(line, Field::Third)?;
-    rest_unused(line)?;
-    Ok(Record::GateDay(GateDay {
-        date: day,
-        energy_in,
-        energy_out,
-    }))
-}
+    // A line with the tag ENRL.
+    fn enrolment(&self) -> Result<Record, Fault>
+        ensures { CellsRead Enrl self.now.bytes result }
+    {
+        let (point, retailer, EightDigits(start)) = self.three()?;
+        Ok(Record::Enrolment(Enrolment {
+            point,
+            retailer,
+            start,
+        }))
+    }
 
-// A line with the tag INTV.
-fn interval_energy(line: &[u8; 46]) -> Result<Record, Fault>
-    requires { (whole line.now ≡ true) × (take 4 line.now ≡ tag_bytes Intv) }
-    ensures { RecordRead Intv line.now result }
-{
-    let day = date(line, Field::First)?;
-    let meter = number(line, Field::Second)?;
-    let energy = number(line, Field::Third)?;
-    rest_unused(line)?;
-    Ok(Record::IntervalEnergy(IntervalEnergy {
-        date: day,
-        meter,
-        energy,
-    }))
-}
+    // A line with the tag GATE.
+    fn gate_day(&self) -> Result<Record, Fault>
+        ensures { CellsRead Gate self.now.bytes result }
+    {
+        let (EightDigits(date), energy_in, energy_out) = self.three()?;
+        Ok(Record::GateDay(GateDay {
+            date,
+            energy_in,
+            energy_out,
+        }))
+    }
 
-// A line with the tag DEGD.
-fn degree_days(line: &[u8; 46]) -> Result<Record, Fault>
-    requires { (whole line.now ≡ true) × (take 4 line.now ≡ tag_bytes Degd) }
-    ensures { RecordRead Degd line.now result }
-{
-    let day = date(line, Field::First)?;
-    let count = number(line, Field::Second)?;
-    blank(line, Field::Third)?;
-    rest_unused(line)?;
-    Ok(Record::DegreeDays(DegreeDays { date: day, count }))
-}
+    // A line with the tag INTV.
+    fn interval_energy(&self) -> Result<Record, Fault>
+        ensures { CellsRead Intv self.now.bytes result }
+    {
+        let (EightDigits(date), meter, energy) = self.three()?;
+        Ok(Record::IntervalEnergy(IntervalEnergy {
+            date,
+            meter,
+            energy,
+        }))
+    }
 
-// A line with the tag READ.
-fn reading(line: &[u8; 46]) -> Result<Record, Fault>
-    requires { (whole line.now ≡ true) × (take 4 line.now ≡ tag_bytes Read) }
-    ensures { RecordRead Read line.now result }
-{
-    let point = number(line, Field::First)?;
-    let start = date(line, Field::Second)?;
-    let end = date(line, Field::Third)?;
-    let energy = signed(line, Field::Fourth)?;
-    let kind = reading_type(line)?;
-    Ok(Record::Reading(Reading {
-        point,
-        start,
-        end,
-        energy,
-        reading_type: kind,
-    }))
-}
+    // A line with the tag DEGD.
+    fn degree_days(&self) -> Result<Record, Fault>
+        ensures { CellsRead Degd self.now.bytes result }
+    {
+        let (EightDigits(date), count, Blank) = self.three()?;
+        Ok(Record::DegreeDays(DegreeDays { date, count }))
+    }
 
-// The record of a line with this tag.
-fn record_of(tag: Tag, line: &[u8; 46]) -> Result<Record, Fault>
-    requires { (whole line.now ≡ true) × (take 4 line.now ≡ tag_bytes tag) }
-    ensures { RecordRead tag line.now result }
-{
-    match tag {
-        Tag::Open => opening(line),
-        Tag::Fact => factors(line),
-        Tag::Enrl => enrolment(line),
-        Tag::Gate => gate_day(line),
-        Tag::Intv => interval_energy(line),
-        Tag::Degd => degree_days(line),
-        Tag::Read => reading(line),
+    // A line with the tag READ.
+    fn reading(&self) -> Result<Record, Fault>
+        ensures { CellsRead Read self.now.bytes result }
+    {
+        let point = self.field(Field::First)?;
+        let EightDigits(start) = self.field(Field::Second)?;
+        let EightDigits(end) = self.field(Field::Third)?;
+        let energy = self.field(Field::Fourth)?;
+        let reading_type = self.letter()?;
+        Ok(Record::Reading(Reading {
+            point,
+            start,
+            end,
+            energy,
+            reading_type,
+        }))
+    }
+
+    // What a line says under this tag.
+    fn record(&self, tag: Tag) -> Result<Record, Fault>
+        ensures { CellsRead tag self.now.bytes result }
+    {
+        match tag {
+            Tag::Open => self.opening(),
+            Tag::Fact => self.factors(),
+            Tag::Enrl => self.enrolment(),
+            Tag::Gate => self.gate_day(),
+            Tag::Intv => self.interval_energy(),
+            Tag::Degd => self.degree_days(),
+            Tag::Read => self.reading(),
+        }
     }
 }
 
@@ -146,7 +134,7 @@ pub fn read_line(bytes: &[u8]) -> Result<Record, Fault>
     ensures reads_back { (x : Record) → T (record_fits x) → bytes.now ≡ written x → result ≡ Ok x }
     ensures one_column { IfErr result (λ f. (c : ℕ) → AtFault bytes.now c → c ≡ f.column) }
 {
-    let line = whole_line(bytes)?;
-    let tag = tag_of(line)?;
-    record_of(tag, line)
+    let line = Line::try_from(bytes)?;
+    let tag = line.tag()?;
+    line.record(tag)
 }

@@ -13,10 +13,7 @@ pub fn read_back(record: &Record) -> Result<Record, Refusal>
 {
     let mut line = [0; 46];
     write_record(record, &mut line)?;
-    match read_line(&line) {
-        Ok(back) => Ok(back),
-        Err(_) => unreachable(),
-    }
+    Ok(read_line(&line).unwrap())
 }
 
 // Reads a line and writes what was read: the same 46 bytes.
@@ -25,8 +22,6 @@ pub fn write_again(bytes: &[u8]) -> Result<(Record, [u8; 46]), Fault>
 {
     let record = read_line(bytes)?;
     let mut line = [0; 46];
-    match write_record(&record, &mut line) {
-        Ok(()) => Ok((record, line)),
-        Err(_) => unreachable(),
-    }
+    write_record(&record, &mut line).unwrap();
+    Ok((record, line))
 }

@@ -1,19 +1,14 @@
 use limits::{Limits, check_line};
+use lines::Fault;
 use records::write_record;
 use std::process::Abort;
 use std::test::Fail;
 
-// What a line is answered.
-#[derive(Clone, Copy)]
-pub(crate) enum Expected {
-    Good,
-    Refused { refusal: u8, column: u8 },
-}
-
+// A line, and what it is answered.
 #[derive(Clone, Copy)]
 pub(crate) struct Row {
     pub(crate) line: &'static [u8],
-    pub(crate) expected: Expected,
+    pub(crate) expected: Result<(), Fault>,
 }
 
 const LIMITS: Limits = Limits {
@@ -25,8 +20,8 @@ const LIMITS: Limits = Limits {
 pub(crate) fn check_rows(rt: &impl Abort, rows: &[Row]) -> Result<(), Fail> {
     for row in rows {
         match row.expected {
-            Expected::Good => check_good(rt, row.line)?,
-            Expected::Refused { refusal, column } => check_refused(rt, row.line, refusal, column)?,
+            Ok(()) => check_good(rt, row.line)?,
+            Err(expected) => check_refused(rt, row.line, expected)?,
         }
     }
     Ok(())
@@ -42,13 +37,11 @@ fn check_good(rt: &impl Abort, line: &[u8]) -> Result<(), Fail> {
     Ok(())
 }
 
-fn check_refused(rt: &impl Abort, line: &[u8], refusal: u8, column: u8) -> Result<(), Fail> {
-    match check_line(1, line, LIMITS) {
-        Ok(_) => Err(Fail::new("a line that is to be refused is taken")),
-        Err(fault) => {
-            assert_eq!(rt; fault.refusal.number(), refusal);
-            assert_eq!(rt; fault.column, column);
-            Ok(())
-        }
-    }
+fn check_refused(rt: &impl Abort, line: &[u8], expected: Fault) -> Result<(), Fail> {
+    let Err(fault) = check_line(1, line, LIMITS) else {
+        return Err(Fail::new("a line that is to be refused is taken"));
+    };
+    assert_eq!(rt; fault.refusal, expected.refusal);
+    assert_eq!(rt; fault.column, expected.column);
+    Ok(())
 }

@@ -1,90 +1,96 @@
 use lines::read_line;
 use readings::ReadingType;
-use records::Record;
-use std::test::Fail;
+use records::{DegreeDays, Enrolment, Factors, GateDay, IntervalEnergy, Opening, Reading, Record};
 
-// The values of each record stand in its own fields.
+// The values of each record stand in its own fields. A test for each tag, so that the one that fails is named.
 #[test]
-fn opening(rt: HostRuntime) -> Result<(), Fail> {
+fn opening(rt: HostRuntime) {
     let line = b"OPEN  20240701         2      2000           \n";
-    let Ok(Record::Opening(opening)) = read_line(line) else {
-        return Err(Fail::new("no opening"));
-    };
-    assert_eq!(rt; opening.first_date, 20240701);
-    assert_eq!(rt; opening.days, 2);
-    assert_eq!(rt; opening.unaccounted, 2000);
-    Ok(())
+    assert_eq!(rt;
+        read_line(line),
+        Ok(Record::Opening(Opening {
+            first_date: 20240701,
+            days: 2,
+            unaccounted: 2000,
+        }))
+    );
 }
 
 #[test]
-fn factors(rt: HostRuntime) -> Result<(), Fail> {
+fn factors(rt: HostRuntime) {
     let line = b"FACT         2     30000      4000           \n";
-    let Ok(Record::Factors(factors)) = read_line(line) else {
-        return Err(Fail::new("no factors"));
-    };
-    assert_eq!(rt; factors.point, 2);
-    assert_eq!(rt; factors.base_load, 30000);
-    assert_eq!(rt; factors.sensitivity, 4000);
-    Ok(())
+    assert_eq!(rt;
+        read_line(line),
+        Ok(Record::Factors(Factors {
+            point: 2,
+            base_load: 30000,
+            sensitivity: 4000,
+        }))
+    );
 }
 
 #[test]
-fn enrolment(rt: HostRuntime) -> Result<(), Fail> {
+fn enrolment(rt: HostRuntime) {
     let line = b"ENRL        12         3  20240701           \n";
-    let Ok(Record::Enrolment(enrolment)) = read_line(line) else {
-        return Err(Fail::new("no enrolment"));
-    };
-    assert_eq!(rt; enrolment.point, 12);
-    assert_eq!(rt; enrolment.retailer, 3);
-    assert_eq!(rt; enrolment.start, 20240701);
-    Ok(())
+    assert_eq!(rt;
+        read_line(line),
+        Ok(Record::Enrolment(Enrolment {
+            point: 12,
+            retailer: 3,
+            start: 20240701,
+        }))
+    );
 }
 
 #[test]
-fn gate_day(rt: HostRuntime) -> Result<(), Fail> {
+fn gate_day(rt: HostRuntime) {
     let line = b"GATE  20240701       100         7           \n";
-    let Ok(Record::GateDay(gate)) = read_line(line) else {
-        return Err(Fail::new("no gate day"));
-    };
-    assert_eq!(rt; gate.date, 20240701);
-    assert_eq!(rt; gate.energy_in, 100);
-    assert_eq!(rt; gate.energy_out, 7);
-    Ok(())
+    assert_eq!(rt;
+        read_line(line),
+        Ok(Record::GateDay(GateDay {
+            date: 20240701,
+            energy_in: 100,
+            energy_out: 7,
+        }))
+    );
 }
 
 #[test]
-fn interval_energy(rt: HostRuntime) -> Result<(), Fail> {
+fn interval_energy(rt: HostRuntime) {
     let line = b"INTV  00000000         09999999999           \n";
-    let Ok(Record::IntervalEnergy(interval)) = read_line(line) else {
-        return Err(Fail::new("no interval energy"));
-    };
-    assert_eq!(rt; interval.date, 0);
-    assert_eq!(rt; interval.meter, 0);
-    assert_eq!(rt; interval.energy, 9_999_999_999);
-    Ok(())
+    assert_eq!(rt;
+        read_line(line),
+        Ok(Record::IntervalEnergy(IntervalEnergy {
+            date: 0,
+            meter: 0,
+            energy: 9_999_999_999,
+        }))
+    );
 }
 
 #[test]
-fn degree_days(rt: HostRuntime) -> Result<(), Fail> {
+fn degree_days(rt: HostRuntime) {
     let line = b"DEGD  20240701       500                     \n";
-    let Ok(Record::DegreeDays(degrees)) = read_line(line) else {
-        return Err(Fail::new("no degree days"));
-    };
-    assert_eq!(rt; degrees.date, 20240701);
-    assert_eq!(rt; degrees.count, 500);
-    Ok(())
+    assert_eq!(rt;
+        read_line(line),
+        Ok(Record::DegreeDays(DegreeDays {
+            date: 20240701,
+            count: 500,
+        }))
+    );
 }
 
 #[test]
-fn reading(rt: HostRuntime) -> Result<(), Fail> {
+fn reading(rt: HostRuntime) {
     let line = b"READ         1  20240701  20240703-999999999C\n";
-    let Ok(Record::Reading(reading)) = read_line(line) else {
-        return Err(Fail::new("no reading"));
-    };
-    assert_eq!(rt; reading.point, 1);
-    assert_eq!(rt; reading.start, 20240701);
-    assert_eq!(rt; reading.end, 20240703);
-    assert_eq!(rt; reading.energy, -999_999_999);
-    assert!(rt; matches!(reading.reading_type, ReadingType::CustomersOwn));
-    Ok(())
+    assert_eq!(rt;
+        read_line(line),
+        Ok(Record::Reading(Reading {
+            point: 1,
+            start: 20240701,
+            end: 20240703,
+            energy: -999_999_999,
+            reading_type: ReadingType::CustomersOwn,
+        }))
+    );
 }

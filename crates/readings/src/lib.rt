@@ -1,8 +1,13 @@
-// The types of readings.
+// The types of readings, their words and their letters.
 #![tactic(auto)]
 
 ghost use Rattle.std.specs.Prelude.{◌≡◌};
 ghost use Rattle.readings.specs.Types.{firm};
+
+mod letter;
+
+pub use letter::UnknownLetter;
+use std::fmt;
 
 // How a reading came about.
 #[derive(Clone, Copy, PartialEq, Eq, Debug)]
@@ -19,5 +24,16 @@ impl ReadingType {
         ensures { result ≡ firm self }
     {
         matches!(self, ReadingType::Actual | ReadingType::Substituted)
+    }
+}
+
+impl fmt::Display for ReadingType {
+    fn fmt<W: fmt::Write>(&self, f: &mut fmt::Formatter<W>) -> fmt::Result {
+        f.write_str(match self {
+            ReadingType::Actual => "actual",
+            ReadingType::Substituted => "substituted",
+            ReadingType::Estimated => "estimated",
+            ReadingType::CustomersOwn => "customer's own",
+        })
     }
 }

@@ -1,5 +1,5 @@
 -- What the code lays out, as cells.
-use Rattle.std.specs.Prelude.{List, [], ◌∷◌, Some, None, Option}
+use Rattle.std.specs.Prelude.{List, [], ◌∷◌, ◌++◌, map, Some, None, Option}
 use Rattle.fields.specs.Kinds.{number, signed, date, reading_type}
 use Rattle.readings.specs.declared.ReadingType.{ReadingType}
 use Rattle.records.specs.Records.{Cell, cell, unused, letterless}
@@ -7,15 +7,18 @@ use Rattle.records.specs.declared.layout.Content.{Content}
 use Rattle.records.specs.declared.layout.Content.TheVariants.{Number, Signed, Date, Blank}
 use Rattle.records.specs.declared.layout.Layout.{Layout}
 
+-- what a field holds
 abbrev pub cell_of : Content → Cell
 cell_of (Number n) = cell number n
 cell_of (Signed z) = cell signed z
 cell_of (Date n) = cell date n
 cell_of Blank = unused
 
+-- a letter, or none
 abbrev pub letter_cell : Option ReadingType → Cell
 letter_cell (Some t) = cell reading_type t
 letter_cell None = letterless
 
+-- the four fields and the letter's column
 abbrev pub layout_cells : Layout → List Cell
-layout_cells l = cell_of l.first ∷ cell_of l.second ∷ cell_of l.third ∷ cell_of l.fourth ∷ letter_cell l.letter ∷ []
+layout_cells l = map cell_of l.fields ++ letter_cell l.letter ∷ []

@@ -6,11 +6,12 @@ ghost use Rattle.records.specs.Records.{cells, tag_of};
 
 use super::record::Record;
 use super::tag::Tag;
+use fields::{Blank, EightDigits, FieldValue};
 use readings::ReadingType;
 use refusals::Refusal;
 
 // What a field holds.
-#[derive(Clone, Copy)]
+#[derive(Clone, Copy, PartialEq, Eq, Debug)]
 pub(crate) enum Content {
     Number(u64),
     Signed(i64),
@@ -19,13 +20,10 @@ pub(crate) enum Content {
 }
 
 // What a line holds: its tag, its four fields, and its letter if it has one.
-#[derive(Clone, Copy)]
+#[derive(Clone, Copy, PartialEq, Eq, Debug)]
 pub(crate) struct Layout {
     pub(crate) tag: Tag,
-    pub(crate) first: Content,
-    pub(crate) second: Content,
-    pub(crate) third: Content,
-    pub(crate) fourth: Content,
+    pub(crate) fields: [Content; 4],
     pub(crate) letter: Option<ReadingType>,
 }
 
@@ -35,10 +33,10 @@ impl Content {
         ensures { Answers result (fits (cell_of self).kind (cell_of self).value) (columns (cell_of self).kind (cell_of self).value) 3 }
     {
         match self {
-            Content::Number(value) => fields::write_number(value),
-            Content::Signed(value) => fields::write_signed(value),
-            Content::Date(date) => fields::write_date(date),
-            Content::Blank => Ok(fields::write_blank()),
+            Content::Number(value) => value.write(),
+            Content::Signed(value) => value.write(),
+            Content::Date(date) => EightDigits(date).write(),
+            Content::Blank => Blank.write(),
         }
     }
 }
@@ -52,58 +50,72 @@ impl Record {
         match *self {
             Record::Opening(opening) => Layout {
                 tag: Tag::Open,
-                first: Content::Date(opening.first_date),
-                second: Content::Number(opening.days),
-                third: Content::Number(opening.unaccounted),
-                fourth: Content::Blank,
+                fields: [
+                    Content::Date(opening.first_date),
+                    Content::Number(opening.days),
+                    Content::Number(opening.unaccounted),
+                    Content::Blank,
+                ],
                 letter: None,
             },
             Record::Factors(factors) => Layout {
                 tag: Tag::Fact,
-                first: Content::Number(factors.point),
-                second: Content::Number(factors.base_load),
-                third: Content::Number(factors.sensitivity),
-                fourth: Content::Blank,
+                fields: [
+                    Content::Number(factors.point),
+                    Content::Number(factors.base_load),
+                    Content::Number(factors.sensitivity),
+                    Content::Blank,
+                ],
                 letter: None,
             },
             Record::Enrolment(enrolment) => Layout {
                 tag: Tag::Enrl,
-                first: Content::Number(enrolment.point),
-                second: Content::Number(enrolment.retailer),
-                third: Content::Date(enrolment.start),
-                fourth: Content::Blank,
+                fields: [
+                    Content::Number(enrolment.point),
+                    Content::Number(enrolment.retailer),
+                    Content::Date(enrolment.start),
+                    Content::Blank,
+                ],
                 letter: None,
             },
             Record::GateDay(gate) => Layout {
                 tag: Tag::Gate,
-                first: Content::Date(gate.date),
-                second: Content::Number(gate.energy_in),
-                third: Content::Number(gate.energy_out),
-                fourth: Content::Blank,
+                fields: [
+                    Content::Date(gate.date),
+                    Content::Number(gate.energy_in),
+                    Content::Number(gate.energy_out),
+                    Content::Blank,
+                ],
                 letter: None,
             },
             Record::IntervalEnergy(interval) => Layout {
                 tag: Tag::Intv,
-                first: Content::Date(interval.date),
-                second: Content::Number(interval.meter),
-                third: Content::Number(interval.energy),
-                fourth: Content::Blank,
+                fields: [
+                    Content::Date(interval.date),
+                    Content::Number(interval.meter),
+                    Content::Number(interval.energy),
+                    Content::Blank,
+                ],
                 letter: None,
             },
             Record::DegreeDays(degrees) => Layout {
                 tag: Tag::Degd,
-                first: Content::Date(degrees.date),
-                second: Content::Number(degrees.count),
-                third: Content::Blank,
-                fourth: Content::Blank,
+                fields: [
+                    Content::Date(degrees.date),
+                    Content::Number(degrees.count),
+                    Content::Blank,
+                    Content::Blank,
+                ],
                 letter: None,
             },
             Record::Reading(reading) => Layout {
                 tag: Tag::Read,
-                first: Content::Number(reading.point),
-                second: Content::Date(reading.start),
-                third: Content::Date(reading.end),
-                fourth: Content::Signed(reading.energy),
+                fields: [
+                    Content::Number(reading.point),
+                    Content::Date(reading.start),
+                    Content::Date(reading.end),
+                    Content::Signed(reading.energy),
+                ],
                 letter: Some(reading.reading_type),
             },
         }

@@ -1,7 +1,7 @@
 use readings::ReadingType;
 
 // A book opens: its first date, its number of days, and the unaccounted-for value in ten-thousandths.
-#[derive(Clone, Copy)]
+#[derive(Clone, Copy, PartialEq, Eq, Debug)]
 pub struct Opening {
     pub first_date: u32,
     pub days: u64,
@@ -9,7 +9,7 @@ pub struct Opening {
 }
 
 // A point's factors: base load in kJ a day, sensitivity in kJ a degree day.
-#[derive(Clone, Copy)]
+#[derive(Clone, Copy, PartialEq, Eq, Debug)]
 pub struct Factors {
     pub point: u64,
     pub base_load: u64,
@@ -17,7 +17,7 @@ pub struct Factors {
 }
 
 // A point gets its retailer and its start day.
-#[derive(Clone, Copy)]
+#[derive(Clone, Copy, PartialEq, Eq, Debug)]
 pub struct Enrolment {
     pub point: u64,
     pub retailer: u64,
@@ -25,7 +25,7 @@ pub struct Enrolment {
 }
 
 // The energy into and out of the area on one day, in MJ.
-#[derive(Clone, Copy)]
+#[derive(Clone, Copy, PartialEq, Eq, Debug)]
 pub struct GateDay {
     pub date: u32,
     pub energy_in: u64,
@@ -33,7 +33,7 @@ pub struct GateDay {
 }
 
 // The energy of one interval meter on one day, in MJ.
-#[derive(Clone, Copy)]
+#[derive(Clone, Copy, PartialEq, Eq, Debug)]
 pub struct IntervalEnergy {
     pub date: u32,
     pub meter: u64,
@@ -41,14 +41,14 @@ pub struct IntervalEnergy {
 }
 
 // The degree days of one day, in hundredths.
-#[derive(Clone, Copy)]
+#[derive(Clone, Copy, PartialEq, Eq, Debug)]
 pub struct DegreeDays {
     pub date: u32,
     pub count: u64,
 }
 
 // A reading of a point from its start day to the day before its end date, in MJ.
-#[derive(Clone, Copy)]
+#[derive(Clone, Copy, PartialEq, Eq, Debug)]
 pub struct Reading {
     pub point: u64,
     pub start: u32,
@@ -58,7 +58,7 @@ pub struct Reading {
 }
 
 // What a line says.
-#[derive(Clone, Copy)]
+#[derive(Clone, Copy, PartialEq, Eq, Debug)]
 pub enum Record {
     Opening(Opening),
     Factors(Factors),

@@ -5,7 +5,7 @@ ghost use Rattle.records.specs.Tags.{tag_bytes};
 use refusals::Refusal;
 
 // The four capitals that a line begins with.
-#[derive(Clone, Copy)]
+#[derive(Clone, Copy, PartialEq, Eq, Debug)]
 pub enum Tag {
     Open,
     Fact,
@@ -16,11 +16,13 @@ pub enum Tag {
     Read,
 }
 
-impl Tag {
-    // The tag that the bytes are.
-    pub fn read(bytes: &[u8]) -> Result<Tag, Refusal>
-        ensures { Reads (λ _. true) tag_bytes bytes.now result }
-    {
+// The tag that the bytes are.
+impl TryFrom<&[u8]> for Tag {
+    type Error = Refusal;
+
+    ghost try_from_gives = { λ bytes r. Reads (λ _. true) tag_bytes bytes.now r };
+
+    fn try_from(bytes: &[u8]) -> Result<Tag, Refusal> {
         match bytes {
             b"OPEN" => Ok(Tag::Open),
             b"FACT" => Ok(Tag::Fact),
@@ -32,12 +34,14 @@ impl Tag {
             _ => Err(Refusal::MalformedLine),
         }
     }
+}
 
-    // The bytes of a tag.
-    pub(crate) fn bytes(self) -> [u8; 4]
-        ensures { result ≡ tag_bytes self }
-    {
-        match self {
+// The bytes of a tag.
+impl From<Tag> for [u8; 4] {
+    ghost from_gives = { λ t bytes. bytes ≡ tag_bytes t };
+
+    fn from(tag: Tag) -> [u8; 4] {
+        match tag {
             Tag::Open => *b"OPEN",
             Tag::Fact => *b"FACT",
             Tag::Enrl => *b"ENRL",

@@ -1,5 +1,4 @@
-use Rattle.std.proofs.Common.{◌≡◌, length, refl, arith, lt→ltb}
-use Rattle.std.proofs.lemmas.List.{take_all}
+use Rattle.std.proofs.Common.{refl}
 use Rattle.fields.proofs.Digits.{read_more, no_digits}
 use Rattle.fields.proofs.text.digits_value.Goals as goal
 
@@ -10,10 +9,3 @@ returns-then-not-is_ascii_digit c =
 pub loop-byte-preserved : goal.loop-byte-preserved
 loop-byte-preserved c =
     read_more _ _ _ _ c.loop-byte-test.true c.if-not-is_ascii_digit.ensures.cases c.from.ensures c.loop-byte.invariant
-
-pub returns : goal.returns
-returns c =
-    let e : c.loop-byte.byte-index ≡ length c.args.bytes.now = omega arith in
-    let all = take_all (length c.args.bytes.now) c.args.bytes.now (omega arith) in
-    let inv = rw e at c.loop-byte.invariant in
-    (lt→ltb _ _ inv.0, rw all at inv.1)

@@ -1,17 +1,12 @@
-use Rattle.std.proofs.Common.{◌≡◌, length, arith, rules}
-use Rattle.std.proofs.lemmas.List.{get_or_past}
-use Rattle.fields.proofs.Spaces.{front_more, front_all}
+use Rattle.std.proofs.Common.{◌≡◌, not, eqb, ◌++◌, drop, replicate, sym, ◌∙◌, subst, rules, tests}
+use Rattle.std.proofs.lemmas.Iterator.{YieldsList-from_slice}
+use Rattle.std.proofs.lemmas.Iterator.Search.{position_from_yields_List}
+use Rattle.fields.proofs.Spaces.{spaces_first, spaces_found}
 use Rattle.fields.proofs.text.leading_spaces.Goals as goal
 
-pub returns-then-byte-ne32 : goal.returns-then-byte-ne32
-returns-then-byte-ne32 c =
-    record { within = search rules; spaces = front_all _ _ c.loop-i.invariant; past = search rules }
-
-pub loop-i-preserved : goal.loop-i-preserved
-loop-i-preserved c = front_more _ _ (omega arith) c.loop-i.invariant (search rules)
-
-pub returns : goal.returns
-returns c =
-    let e : c.loop-i.i ≡ length c.args.bytes.now = omega arith in
-    let p = get_or_past c.args.bytes.now (length c.args.bytes.now) 0 (omega arith) in
-    record { within = omega arith; spaces = front_all _ _ (rw e at c.loop-i.invariant); past = λ h. omega arith }
+pub returns-clause-spaces : goal.returns-clause-spaces
+returns-clause-spaces c =
+    let bytes = c.args.bytes.now in
+    let found = position_from_yields_List (λ b. not (eqb b 32)) _ _ c.position.result c.position.ensures.ran (YieldsList-from_slice bytes c.iter.ensures.rest) (λ x b q k. search (rules, tests)) in
+    let same = c.unwrap_or.ensures ∙ spaces_found bytes c.position.result found in
+    subst (λ n. bytes ≡ replicate n 32 ++ drop n bytes) (sym same) (spaces_first bytes)

@@ -1,10 +1,13 @@
-use Rattle.limits.proofs.Numbered.{malformed, beyond}
+use Rattle.std.proofs.Common.{sym, inl, inr}
+use Rattle.fields.proofs.Exits.{at_exit}
+use Rattle.limits.specs.Lines.{Checked}
 use Rattle.limits.proofs.line.checked.Goals as goal
 
 pub returns-in_err-record : goal.returns-in_err-record
 returns-in_err-record c =
-    malformed c.args.bytes.now c.args.limits _ _ c.from_residual.ensures c.in_err-record.ensures.read
+    at_exit (Checked c.args.bytes.now c.args.limits) _ _ c.from_residual.ensures (inl c.in_err-record.ensures.read)
 
 pub returns-in_err-check_limits : goal.returns-in_err-check_limits
 returns-in_err-check_limits c =
-    beyond c.args.bytes.now c.args.limits _ _ c.in_ok-record.record c.from_residual-in_err-check_limits.ensures c.in_ok-record.ensures.read c.in_err-check_limits.ensures
+    let read = c.in_ok-record.ensures.read in
+    at_exit (Checked c.args.bytes.now c.args.limits) _ _ c.from_residual-in_err-check_limits.ensures (inr (c.in_ok-record.record, read.0, read.1, sym c.in_err-check_limits.ensures))

@@ -1,6 +1,10 @@
+use Rattle.fields.proofs.Exits.{at_exit}
+use Rattle.records.specs.Writing.{Writes}
 use Rattle.records.proofs.Joining.{unfit_unwritten}
 use Rattle.records.proofs.write.write_record.Goals as goal
 
 pub returns-in_err-line : goal.returns-in_err-line
 returns-in_err-line c =
-    unfit_unwritten c.args.record.now c.args.buffer.now _ _ c.from_residual.ensures c.in_err-line.ensures
+    let written = c.args.record.now in
+    let buffer = c.args.buffer.now in
+    at_exit (Writes written buffer buffer) _ _ c.from_residual.ensures (unfit_unwritten written buffer _ c.in_err-line.ensures)

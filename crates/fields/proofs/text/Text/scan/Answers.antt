@@ -1,5 +1,7 @@
 use Rattle.std.proofs.Common.{length, refl, ap, ◌∙◌}
-use Rattle.fields.proofs.Exits.{broken}
+use Rattle.fields.specs.Reads.{Reads}
+use Rattle.fields.specs.Texts.{text_fits, text_columns}
+use Rattle.fields.proofs.Exits.{at_exit}
 use Rattle.fields.proofs.Scanning.{length_columns, cut_at, scan_found, scan_lost}
 use Rattle.fields.proofs.text.Text.scan.Goals as goal
 
@@ -12,7 +14,7 @@ returns-in_err-value c =
     let q = c.in_err-value.ensures in
     let spaces = c.leading_spaces-spaces.ensures in
     let cut = cut_at _ _ _ c.if-columns-ne10.false spaces.within spaces.spaces spaces.past c.begins_with_minus-minus.ensures in
-    broken _ _ _ _ _ c.from_residual.ensures q.0 (λ t h e. let p = scan_lost _ _ _ _ t cut c.from.ensures h e in q.1 t.value p.0 p.1)
+    at_exit (Reads text_fits text_columns c.args.columns.now) _ _ c.from_residual.ensures (q.0, λ t h e. let p = scan_lost _ _ _ _ t cut c.from.ensures h e in q.1 t.value p.0 p.1)
 
 pub returns : goal.returns
 returns c =

@@ -1,10 +1,23 @@
-use Rattle.records.proofs.Joining.{line_written, fourth_unfit}
+use Rattle.std.proofs.Common.{[], arith, rules}
+use Rattle.refusals.specs.Answers.{Answers}
+use Rattle.fields.proofs.Exits.{at_exit}
+use Rattle.records.specs.Layouts.{layout_cells}
+use Rattle.records.specs.Records.{all_fit, line_of}
+use Rattle.records.proofs.Joining.{begun, one_more, line_written, field_unfit}
 use Rattle.records.proofs.layout.Layout.line.Goals as goal
 
-pub returns-in_err-fourth : goal.returns-in_err-fourth
-returns-in_err-fourth c =
-    fourth_unfit c.args.self.now _ _ c.from_residual-in_err-fourth.ensures c.in_err-fourth.ensures
+pub loop-place-init : goal.loop-place-init
+loop-place-init c = begun _ _ _ _ [] c.from.ensures (search rules) c.put.ensures
+
+pub loop-place-preserved : goal.loop-place-preserved
+loop-place-preserved c =
+    one_more _ _ _ _ _ _ _ (search rules) (search rules) c.in_ok-columns.ensures c.loop-place.invariant c.put-in-loop-place.ensures
+
+pub returns-in_err-columns : goal.returns-in_err-columns
+returns-in_err-columns c =
+    let l = c.args.self.now in
+    at_exit (λ r. Answers r (all_fit (layout_cells l)) (line_of l.tag (layout_cells l)) 3) _ _ c.from_residual.ensures (field_unfit l _ _ _ (search rules) c.in_err-columns.ensures)
 
 pub returns : goal.returns
 returns c =
-    line_written c.args.self.now _ _ _ _ _ _ c.in_ok-first.ensures c.in_ok-second.ensures c.in_ok-third.ensures c.in_ok-fourth.ensures c.letter_byte-letter.ensures c.joined.ensures
+    line_written c.args.self.now _ _ _ _ c.put-2.array_long (omega arith) (search rules) c.loop-place.invariant c.letter_byte.ensures c.put-2.ensures
