@@ -10,6 +10,7 @@ use Rattle.histories.specs.History.{History, Setting, enrolment_of}
 use Rattle.histories.specs.Readings.{held_of, mark, replaces, some_reading}
 use Rattle.histories.specs.declared.call.Call.{Call}
 use Rattle.histories.specs.declared.call.Call.TheVariants.{Enrol, EnterGate, EnterInterval, EnterDegreeDays, EnterReading, AskFigure, AskDay, AskRetailer}
+use Rattle.histories.specs.declared.call.Delivery.{Delivery}
 use Rattle.histories.specs.declared.entry.Enrolment.{Enrolment}
 use Rattle.histories.specs.declared.entry.Entry.{Entry}
 use Rattle.histories.specs.declared.entry.Entry.TheVariants.{Enrolled, GateEntered, IntervalEntered, DegreeDaysEntered, ReadingTaken}
@@ -47,7 +48,7 @@ beyond_limits s (Enrol point retailer start) = not (between 1 s.points point && 
 beyond_limits s (EnterGate date energy_in energy_out) = not (nat_le energy_in largest_gate && nat_le energy_out largest_gate)
 beyond_limits s (EnterInterval date meter energy) = not (between 1 meters meter && nat_le energy largest_interval)
 beyond_limits s (EnterDegreeDays date count) = not (nat_le count greatest_count)
-beyond_limits s (EnterReading point start end energy type) = not (between 1 s.points point && energy_within energy)
+beyond_limits s (EnterReading delivery) = not (between 1 s.points delivery.point && energy_within delivery.energy)
 beyond_limits s (AskFigure point date) = not (between 1 s.points point)
 beyond_limits s (AskDay date) = false
 beyond_limits s (AskRetailer retailer date) = not (between 1 retailers retailer)
@@ -58,7 +59,7 @@ no_such_date (Enrol point retailer start) = not (is_date start)
 no_such_date (EnterGate date energy_in energy_out) = not (is_date date)
 no_such_date (EnterInterval date meter energy) = not (is_date date)
 no_such_date (EnterDegreeDays date count) = not (is_date date)
-no_such_date (EnterReading point start end energy type) = not (is_date start && is_date end)
+no_such_date (EnterReading delivery) = not (is_date delivery.start && is_date delivery.end)
 no_such_date (AskFigure point date) = not (is_date date)
 no_such_date (AskDay date) = not (is_date date)
 no_such_date (AskRetailer retailer date) = not (is_date date)
@@ -73,7 +74,7 @@ outside_book s (Enrol point retailer start) = not (in_book s 0 start)
 outside_book s (EnterGate date energy_in energy_out) = not (in_book s 0 date)
 outside_book s (EnterInterval date meter energy) = not (in_book s 0 date)
 outside_book s (EnterDegreeDays date count) = not (in_book s 0 date)
-outside_book s (EnterReading point start end energy type) = not (in_book s 0 start && in_book s 1 end)
+outside_book s (EnterReading delivery) = not (in_book s 0 delivery.start && in_book s 1 delivery.end)
 outside_book s (AskFigure point date) = not (in_book s 0 date)
 outside_book s (AskDay date) = not (in_book s 0 date)
 outside_book s (AskRetailer retailer date) = not (in_book s 0 date)
@@ -82,13 +83,23 @@ outside_book s (AskRetailer retailer date) = not (in_book s 0 date)
 abbrev pub place : Setting → ℕ → ℕ
 place s date = day_number_of date - s.first
 
+-- a delivered reading with days in the place of its dates
+abbrev pub reading_of : Setting → Delivery → Reading
+reading_of s delivery = record {
+  point = delivery.point;
+  start = place s delivery.start;
+  end = place s delivery.end;
+  energy = energy_of delivery.energy;
+  reading_type = delivery.reading_type;
+}
+
 -- the entry that a call makes; a question makes none
 abbrev pub entry_of : Setting → Call → Option Entry
 entry_of s (Enrol point retailer start) = Some (Enrolled point (record { retailer = retailer; start = place s start }))
 entry_of s (EnterGate date energy_in energy_out) = Some (GateEntered (place s date) (record { energy_in = energy_in; energy_out = energy_out }))
 entry_of s (EnterInterval date meter energy) = Some (IntervalEntered (place s date) meter energy)
 entry_of s (EnterDegreeDays date count) = Some (DegreeDaysEntered (place s date) count)
-entry_of s (EnterReading point start end energy type) = Some (ReadingTaken (record { point = point; start = place s start; end = place s end; energy = energy_of energy; reading_type = type }))
+entry_of s (EnterReading delivery) = Some (ReadingTaken (reading_of s delivery))
 entry_of s (AskFigure point date) = None
 entry_of s (AskDay date) = None
 entry_of s (AskRetailer retailer date) = None
@@ -112,7 +123,7 @@ negative_energy (Enrol point retailer start) = false
 negative_energy (EnterGate date energy_in energy_out) = false
 negative_energy (EnterInterval date meter energy) = false
 negative_energy (EnterDegreeDays date count) = false
-negative_energy (EnterReading point start end energy type) = negative energy
+negative_energy (EnterReading delivery) = negative delivery.energy
 negative_energy (AskFigure point date) = false
 negative_energy (AskDay date) = false
 negative_energy (AskRetailer retailer date) = false
@@ -123,7 +134,7 @@ not_enrolled h (Enrol point retailer start) = false
 not_enrolled h (EnterGate date energy_in energy_out) = false
 not_enrolled h (EnterInterval date meter energy) = false
 not_enrolled h (EnterDegreeDays date count) = false
-not_enrolled h (EnterReading point start end energy type) = not (is_some (enrolment_of h point))
+not_enrolled h (EnterReading delivery) = not (is_some (enrolment_of h delivery.point))
 not_enrolled h (AskFigure point date) = not (is_some (enrolment_of h point))
 not_enrolled h (AskDay date) = false
 not_enrolled h (AskRetailer retailer date) = false
@@ -134,7 +145,7 @@ enrolled_already h (Enrol point retailer start) = is_some (enrolment_of h point)
 enrolled_already h (EnterGate date energy_in energy_out) = false
 enrolled_already h (EnterInterval date meter energy) = false
 enrolled_already h (EnterDegreeDays date count) = false
-enrolled_already h (EnterReading point start end energy type) = false
+enrolled_already h (EnterReading delivery) = false
 enrolled_already h (AskFigure point date) = false
 enrolled_already h (AskDay date) = false
 enrolled_already h (AskRetailer retailer date) = false
@@ -183,7 +194,7 @@ asked_without_load s h (Enrol point retailer start) = false
 asked_without_load s h (EnterGate date energy_in energy_out) = false
 asked_without_load s h (EnterInterval date meter energy) = false
 asked_without_load s h (EnterDegreeDays date count) = false
-asked_without_load s h (EnterReading point start end energy type) = false
+asked_without_load s h (EnterReading delivery) = false
 asked_without_load s h (AskFigure point date) = false
 asked_without_load s h (AskDay date) = not (is_some (load s h (place s date)))
 asked_without_load s h (AskRetailer retailer date) = false
@@ -227,8 +238,7 @@ named_by s h (Enrol point retailer start) n = None
 named_by s h (EnterGate date energy_in energy_out) n = None
 named_by s h (EnterInterval date meter energy) n = None
 named_by s h (EnterDegreeDays date count) n = None
-named_by s h (EnterReading point start end energy type) n =
-    cond (n == 11) (covered_named s (first_without_load s h (range_with_len (place s start) (place s end - place s start)))) None
+named_by s h (EnterReading delivery) n = cond (n == 11) (covered_named s (first_without_load s h (days_of (reading_of s delivery)))) None
 named_by s h (AskFigure point date) n = None
 named_by s h (AskDay date) n = cond (n == 14) (Some date) None
 named_by s h (AskRetailer retailer date) n = None

@@ -1,7 +1,18 @@
 use readings::ReadingType;
 
+// A reading of a point as it is delivered: from its start date to the day before its end date, with the energy as it came, even negative.
+#[derive(Clone, Copy, Debug, PartialEq, Eq)]
+pub struct Delivery {
+    pub point: u32,
+    pub start: u32,
+    pub end: u32,
+    pub energy: i64,
+    pub reading_type: ReadingType,
+}
+
 // What a book can be told and asked. Dates are their eight digits.
-#[derive(Clone, Copy)]
+// Only a delivery has a struct of its own: the two or three numbers of another call have names in it, which a struct would say again.
+#[derive(Clone, Copy, Debug, PartialEq, Eq)]
 pub enum Call {
     Enrol {
         point: u32,
@@ -22,13 +33,7 @@ pub enum Call {
         date: u32,
         count: u32,
     },
-    EnterReading {
-        point: u32,
-        start: u32,
-        end: u32,
-        energy: i64,
-        reading_type: ReadingType,
-    },
+    EnterReading(Delivery),
     AskFigure {
         point: u32,
         date: u32,

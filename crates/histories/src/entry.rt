@@ -1,21 +1,21 @@
 use readings::ReadingType;
 
 // The energy into and out of the area on a day.
-#[derive(Clone, Copy)]
+#[derive(Clone, Copy, Debug, PartialEq, Eq)]
 pub struct GateDay {
     pub energy_in: u64,
     pub energy_out: u64,
 }
 
 // A point's retailer, and the day from which it has figures.
-#[derive(Clone, Copy)]
+#[derive(Clone, Copy, Debug, PartialEq, Eq)]
 pub struct Enrolment {
     pub retailer: u32,
     pub start: u32,
 }
 
 // The metered energy of a point from its start day to the day before its end.
-#[derive(Clone, Copy)]
+#[derive(Clone, Copy, Debug, PartialEq, Eq)]
 pub struct Reading {
     pub point: u32,
     pub start: u32,
@@ -25,7 +25,7 @@ pub struct Reading {
 }
 
 // What a book was told and accepted. Days are counted from 0, the book's first.
-#[derive(Clone, Copy)]
+#[derive(Clone, Copy, Debug, PartialEq, Eq)]
 pub enum Entry {
     Enrolled { point: u32, enrolment: Enrolment },
     GateEntered { day: u32, gate: GateDay },

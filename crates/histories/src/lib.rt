@@ -4,5 +4,5 @@
 mod call;
 mod entry;
 
-pub use call::Call;
+pub use call::{Call, Delivery};
 pub use entry::{Enrolment, Entry, GateDay, Reading};

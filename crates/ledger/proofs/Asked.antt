@@ -1,9 +1,10 @@
 -- Marks, loads of covered days and dates, from what a ledger says. Assumes nothing.
-use Rattle.std.proofs.Common.{◌≡◌, ℕ, suc, ◌+◌, ◌-◌, ◌<◌, ◌≤◌, Bool, true, false, cond, not, ◌&&◌, ◌||◌, eqb, ltb, leb, ◌∷◌, get_or, is_some, IfSome, Some, None, Ok, vec_items, count_by, Option, Result, sym, refl, ap, ◌∙◌, arith}
+use Rattle.std.proofs.Common.{◌≡◌, ℕ, zero, suc, ◌+◌, ◌-◌, ◌<◌, ◌≤◌, Bool, true, false, cond, not, ◌&&◌, ◌||◌, eqb, ltb, leb, get_or, is_some, Some, None, Ok, vec_items, count_by, Option, Result, sym, refl, ap, ◌∙◌, arith}
 use Rattle.std.proofs.lemmas.Bool.{lt-ltb}
 use Rattle.std.proofs.lemmas.Bool.Decides.{nat_tests}
-use Rattle.std.specs.List.{range_with_len}
-use Rattle.std.specs.Option.{option_map, option_or}
+use Rattle.std.specs.Bool.{MatchBool}
+use Rattle.std.specs.List.{find, range_with_len}
+use Rattle.std.specs.Option.{option_map}
 use Rattle.calendar.proofs.After.{date_numbered_back}
 use Rattle.calendar.specs.Digits.{Numbered, date_numbered, day_number_of, is_date}
 use Rattle.histories.specs.Calls.{after_all_marks, end_not_allowed, first_without_load, in_book, place, places_full, refusal, soft_over_firm, started_before}
@@ -16,7 +17,7 @@ use Rattle.readings.specs.Types.{firm}
 use Rattle.reading_places.specs.Places.{placed}
 use Rattle.refusals.specs.Answers.{AnswersBy, accepted_since}
 use Rattle.refusals.specs.declared.refusal.Refusal.{Refusal}
-use Rattle.ledger.specs.Days.{within_days}
+use Rattle.ledger.specs.Days.{DayAnswers, within_days}
 use Rattle.ledger.specs.Marks.{after_marks_at, end_allowed_at, full_at, mark_at, soft_over_firm_at, some_at}
 use Rattle.ledger.specs.Told.{Follows}
 use Rattle.ledger.specs.declared.state.Ledger.{Ledger}
@@ -65,39 +66,22 @@ has_load {s} {h} {l} d f within =
     let told : get_or l.gates d None ≡ gate_of h d = rw inside at (f.gates d) in
     some_mapped (figures.load_by s h d) (gate_of h d) ∙ ap is_some (sym told)
 
-counting_from : (a b : ℕ) → a < b → range_with_len a (b - a) ≡ a ∷ range_with_len (a + 1) (b - (a + 1))
-counting_from a b below = let e : b - a ≡ suc (b - (a + 1)) = omega arith in rw e refl
+chosen : (b : Bool) (x y : Option ℕ) → cond (not b) x y ≡ cond b y x
+chosen true x y = refl
+chosen false x y = refl
 
--- the first of the days from one on: that day where it has no load, else one of the rest
-pub first_here : {s : Setting} {h : History} {l : Ledger} (day end : ℕ) (b : Bool) → Follows s h l → day < end → end ≤ l.opening.days → is_some (get_or l.gates day None) ≡ b → first_without_load s h (range_with_len day (end - day)) ≡ cond b (first_without_load s h (range_with_len (day + 1) (end - (day + 1)))) (Some day)
-first_here {s} {h} {l} day end b f below within here =
-    ap (first_without_load s h) (counting_from day end below)
-    ∙ ap (λ t. cond t (first_without_load s h (range_with_len (day + 1) (end - (day + 1)))) (Some day)) (has_load day f (omega arith) ∙ here)
+-- the first of some days of the book that has no gate entry is the first that has no load
+pub first_followed : {s : Setting} {h : History} {l : Ledger} (n day : ℕ) → Follows s h l → (0 < n → day + n ≤ l.opening.days) → find (λ d. not (is_some (get_or l.gates d None))) (range_with_len day n) ≡ first_without_load s h (range_with_len day n)
+first_followed zero day f within = refl
+first_followed {s} {h} {l} (suc n) day f within =
+    let inside : day + suc n ≤ l.opening.days = within (omega arith) in
+    chosen (is_some (get_or l.gates day None)) (Some day) (find (λ d. not (is_some (get_or l.gates d None))) (range_with_len (day + 1) n))
+    ∙ ap (λ b. cond b (find (λ d. not (is_some (get_or l.gates d None))) (range_with_len (day + 1) n)) (Some day)) (sym (has_load day f (omega arith)))
+    ∙ ap (λ o. cond (is_some (figures.load s h day)) o (Some day)) (first_followed n (day + 1) f (λ some. omega arith))
 
--- a day that was found stays found; else it is this day, or one of the rest
-or_first : (earlier rest : Option ℕ) (b : Bool) (day : ℕ) → option_or earlier (cond b rest (Some day)) ≡ option_or (option_or earlier (cond b None (Some day))) rest
-or_first None rest true day = refl
-or_first None rest false day = refl
-or_first (Some d) rest b day = refl
-
-pub first_more : {s : Setting} {h : History} {l : Ledger} (day end : ℕ) (earlier now : Option ℕ) → Follows s h l → day < end → end ≤ l.opening.days → now ≡ option_or earlier (cond (is_some (get_or l.gates day None)) None (Some day)) → option_or earlier (first_without_load s h (range_with_len day (end - day))) ≡ option_or now (first_without_load s h (range_with_len (day + 1) (end - (day + 1))))
-first_more {s} {h} {l} day end earlier now f below within is =
-    ap (option_or earlier) (first_here day end (is_some (get_or l.gates day None)) f below within refl)
-    ∙ or_first earlier (first_without_load s h (range_with_len (day + 1) (end - (day + 1)))) (is_some (get_or l.gates day None)) day
-    ∙ ap (λ o. option_or o (first_without_load s h (range_with_len (day + 1) (end - (day + 1))))) (sym is)
-
-or_none : (o : Option ℕ) → option_or o None ≡ o
-or_none None = refl
-or_none (Some d) = refl
-
-pub first_all : (s : Setting) (h : History) (day end : ℕ) (o : Option ℕ) → end ≤ day → option_or o (first_without_load s h (range_with_len day (end - day))) ≡ o
-first_all s h day end o over = let none : end - day ≡ 0 = omega arith in rw none (or_none o)
-
--- a found day, earlier or this, is a day of the book
-pub found_within : (earlier : Option ℕ) (b : Bool) (day days : ℕ) → day < days → IfSome earlier (λ d. d < days) → IfSome (option_or earlier (cond b None (Some day))) (λ d. d < days)
-found_within None true day days below was = tt
-found_within None false day days below was = below
-found_within (Some d) b day days below was = was
+pub mapped_same : {X : Type 0} (o : Option X) → option_map (λ x. x) o ≡ o
+mapped_same None = refl
+mapped_same (Some x) = refl
 
 -- the date that a day number leads to
 pub date_found : (r : Result ℕ Refusal) (n k : ℕ) (ok : Bool) → r ≡ Ok n → AnswersBy r ok (λ m. Numbered m k) 4 → n ≡ date_numbered k
@@ -105,12 +89,16 @@ date_found r n k ok was answer =
     let numbered = (accepted_since n ok (λ m. Numbered m k) 4 (rw was at answer)).1 in
     sym (date_numbered_back n numbered.0) ∙ ap date_numbered numbered.1
 
--- a date whose number lies among a ledger's days is in the book, at its place
-pub day_in_book : {s : Setting} {h : History} {l : Ledger} (date number : ℕ) → Follows s h l → number ≡ day_number_of date → within_days l.opening 0 number ≡ true → in_book s 0 date ≡ true
-day_in_book date number f same within = sym (λ i. leb (f.first i) (same i) && ltb (same i) (f.first i + f.days i + 0)) ∙ within
+given_first : {P Q : Type 0} (b : Bool) → (Q → ⊥) → MatchBool b P Q → (b ≡ true) × P
+given_first true never holds = (refl, holds)
+given_first false never holds = absurd (never holds)
 
-pub day_placed : {s : Setting} {h : History} {l : Ledger} (date number day : ℕ) → Follows s h l → number ≡ day_number_of date → day ≡ number - l.opening.first → day ≡ place s date
-day_placed date number day f same is = is ∙ (λ i. same i - f.first i)
+-- the day that a date gave is its place in the book
+pub day_given : {s : Setting} {h : History} {l : Ledger} (date day : ℕ) → Follows s h l → DayAnswers l.opening date (Ok day) → (is_date date ≡ true) × (in_book s 0 date ≡ true) × (day ≡ place s date)
+day_given {s} {h} {l} date day f answers =
+    let real = given_first (is_date date) (λ none. none) answers in
+    let inside = accepted_since day (within_days l.opening 0 (day_number_of date)) (λ n. n ≡ day_number_of date - l.opening.first) 5 real.1 in
+    (real.0, rw (← f.first, ← f.days) inside.0, rw (← f.first) inside.1)
 
 -- the refusal of a question about a day of the book, by whether it has a load
 pub day_refused : (s : Setting) (h : History) (date : ℕ) (b : Bool) → is_date date ≡ true → in_book s 0 date ≡ true → is_some (figures.load s h (place s date)) ≡ b → refusal s h (AskDay date) ≡ cond (not b) (Some 14) None

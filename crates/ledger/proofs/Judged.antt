@@ -1,15 +1,15 @@
 -- The refusal of a reading, from the tests that lead to it. Assumes nothing.
-use Rattle.std.proofs.Common.{◌≡◌, ℕ, ◌+◌, Bool, true, false, cond, ◌&&◌, eqb, ℤ, is_some, Some, None, Ok, Err, Option, sym, refl, ap, ◌∙◌, arith}
+use Rattle.std.proofs.Common.{◌≡◌, ℕ, ◌+◌, Bool, true, false, cond, ◌&&◌, eqb, is_some, Some, None, Ok, Err, Option, sym, refl, ap, ◌∙◌, arith}
 use Rattle.std.proofs.lemmas.Bool.{and_from, cond-false, cond-true, not_from_false, not_from_true}
 use Rattle.std.specs.Option.{option_or}
 use Rattle.calendar.specs.Digits.{date_numbered, day_number_of, is_date}
-use Rattle.histories.specs.Calls.{between, beyond_limits, covered_named, covered_without_load, days_of, end_not_allowed, energy_of, energy_within, entry_of, first_without_load, in_book, negative_energy, no_such_date, not_enrolled, outside_book, place, refusal, start_no_mark}
+use Rattle.histories.specs.Calls.{between, beyond_limits, covered_named, covered_without_load, days_of, end_not_allowed, energy_within, entry_of, first_without_load, in_book, negative_energy, no_such_date, not_enrolled, outside_book, reading_of, refusal, start_no_mark}
 use Rattle.histories.specs.History.{History, Setting}
 use Rattle.histories.specs.declared.call.Call.{Call}
 use Rattle.histories.specs.declared.call.Call.TheVariants.{EnterReading}
+use Rattle.histories.specs.declared.call.Delivery.{Delivery}
 use Rattle.histories.specs.declared.entry.Entry.TheVariants.{ReadingTaken}
 use Rattle.histories.specs.declared.entry.Reading.{Reading}
-use Rattle.readings.specs.declared.ReadingType.{ReadingType}
 use Rattle.refusals.specs.Numbers.{day_named, number_of}
 use Rattle.refusals.specs.declared.refusal.Refusal.{Refusal}
 use Rattle.refusals.specs.declared.refusal.Refusal.TheVariants.{MalformedLine, OutOfTurn, BeyondLimits, NoSuchDate, OutsideBook, NegativeEnergy, PointNotEnrolled, PointEnrolledAlready, StartIsNoMark, EndNotAllowed, CoveredDayWithoutLoad, SoftOverFirm, ReadingPlacesFull, AskedDayWithoutLoad, ListTooShort}
@@ -90,8 +90,8 @@ pub in_book_of : {s : Setting} {h : History} {l : Ledger} (later date number : �
 in_book_of {s} {h} {l} later date number b f numbered inside = rw (← f.first, ← f.days, ← numbered) inside
 
 -- a date outside the book
-pub outside_refused : (s : Setting) (h : History) (point start end : ℕ) (energy : ℤ) (type : ReadingType) (e : Refusal) → between 1 s.points point ≡ true → energy_within energy ≡ true → is_date start ≡ true → is_date end ≡ true → (in_book s 0 start && in_book s 1 end) ≡ false → number_of e ≡ 5 → NumbersJudged s h (EnterReading point start end energy type) (Err e)
-outside_refused s h point start end energy type e pointed limited start_real end_real outside five = (
+pub outside_refused : (s : Setting) (h : History) (delivery : Delivery) (e : Refusal) → between 1 s.points delivery.point ≡ true → energy_within delivery.energy ≡ true → is_date delivery.start ≡ true → is_date delivery.end ≡ true → (in_book s 0 delivery.start && in_book s 1 delivery.end) ≡ false → number_of e ≡ 5 → NumbersJudged s h (EnterReading delivery) (Err e)
+outside_refused s h delivery e pointed limited start_real end_real outside five = (
   cond-false _ _ _ (not_from_true _ (and_from _ _ pointed limited)) ∙ cond-false _ _ _ (not_from_true _ (and_from _ _ start_real end_real))
       ∙ cond-true _ _ _ (not_from_false _ outside)
       ∙ ap Some (sym five),
@@ -115,19 +115,19 @@ unnamed false false false true b7 n e = let same : 6 ≡ n = cc in rw (sym same)
 unnamed false false false false true n e = let same : 7 ≡ n = cc in rw (sym same) refl
 unnamed false false false false false n e = let z : ◌≡◌ {A = ℕ} 0 1 = cc in absurd (omega arith)
 
-module _ (s : Setting) (h : History) (point start end : ℕ) (energy : ℤ) (type : ReadingType) where
+module _ (s : Setting) (h : History) (delivery : Delivery) where
   abbrev call : Call
-  call = EnterReading point start end energy type
+  call = EnterReading delivery
 
   abbrev taken : Reading
-  taken = record { point = point; start = place s start; end = place s end; energy = energy_of energy; reading_type = type }
+  taken = reading_of s delivery
 
   -- the refusal of a reading: that of its numbers, else that of its span
   in_turn : refusal s h call ≡ option_or (numbers_refusal s h call) (span_refusal s h taken)
   unfolding span_refusal
   in_turn = split (beyond_limits s call) (no_such_date call) (outside_book s call) (negative_energy call) (not_enrolled h call) (span_refusal s h taken)
 
-  pub numbers_refused : (e : Refusal) → NumbersJudged s h (EnterReading point start end energy type) (Err e) → Judged s h (EnterReading point start end energy type) ReadingTaken (Err e)
+  pub numbers_refused : (e : Refusal) → NumbersJudged s h call (Err e) → Judged s h call ReadingTaken (Err e)
   numbers_refused e judged = (
     in_turn ∙ ap (λ o. option_or o (span_refusal s h taken)) judged.0,
     judged.1
@@ -142,10 +142,10 @@ module _ (s : Setting) (h : History) (point start end : ℕ) (energy : ℤ) (typ
   passed : (r : Reading) → NumbersJudged s h call (Ok r) → refusal s h call ≡ span_refusal s h r
   passed r numbers = in_turn ∙ ap (λ o. option_or o (span_refusal s h taken)) numbers.0 ∙ ap (span_refusal s h) (same_reading r numbers.1)
 
-  pub span_refused : (r : Reading) (e : Refusal) → NumbersJudged s h (EnterReading point start end energy type) (Ok r) → SpanJudged {X = Unit {0}} s h r (Err e) → Judged s h (EnterReading point start end energy type) ReadingTaken (Err e)
+  pub span_refused : (r : Reading) (e : Refusal) → NumbersJudged s h call (Ok r) → SpanJudged {X = Unit {0}} s h r (Err e) → Judged s h call ReadingTaken (Err e)
   unfolding span_named
   span_refused r e numbers judged =
       (passed r numbers ∙ judged.0, judged.1 ∙ ap (λ x. span_named s h x (number_of e)) (sym (same_reading r numbers.1)))
 
-  pub reading_stands : (r : Reading) → NumbersJudged s h (EnterReading point start end energy type) (Ok r) → span_refusal s h r ≡ None → Judged s h (EnterReading point start end energy type) ReadingTaken (Ok r)
+  pub reading_stands : (r : Reading) → NumbersJudged s h call (Ok r) → span_refusal s h r ≡ None → Judged s h call ReadingTaken (Ok r)
   reading_stands r numbers judged = (passed r numbers ∙ judged, numbers.1)

@@ -1,7 +1,7 @@
 -- The load of a day, from what a ledger says of it. Assumes nothing.
-use Rattle.std.proofs.Common.{◌≡◌, ℕ, ◌+◌, ◌-◌, ◌*◌, ◌/◌, ◌<◌, ◌≤◌, Bool, true, false, ◌&&◌, T, ltb, leb, List, [], ◌∷◌, map, length, get_or, take, IfSome as found, Some, None, Ok, Err, vec_items, sum, Result, sym, refl, ap, ◌∙◌, div-lt_iff_lt-mul, arith, get_or-take}
+use Rattle.std.proofs.Common.{◌≡◌, ℕ, zero, suc, ◌+◌, ◌-◌, ◌*◌, ◌/◌, ◌<◌, ◌≤◌, Bool, true, false, ◌&&◌, T, ltb, leb, List, [], ◌∷◌, map, length, get_or, take, drop, IfSome as found, Some, None, Ok, Err, vec_items, sum, Result, sym, refl, ap, ◌∙◌, subst, div-lt_iff_lt-mul, arith, get_or-take}
 use Rattle.std.proofs.lemmas.List.FromFn.{map-range_with_len_more}
-use Rattle.std.proofs.lemmas.List.{get_or_read}
+use Rattle.std.proofs.lemmas.List.{get_or-drop, length-drop, take_more}
 use Rattle.std.proofs.lemmas.List.Sums.{sum_by_push}
 use Rattle.std.proofs.lemmas.Bool.{and_from, and_parts, le-leb, le-ltb, lt-ltb, leb-true}
 use Rattle.std.proofs.lemmas.Bool.Decides.{nat_tests}
@@ -29,11 +29,11 @@ opened_unaccounted o passes = let all = is_true _ passes in grind (arith, nat_te
 some_same : {x y : ℕ} → Some x ≡ Some y → x ≡ y
 some_same e = cc
 
-pub meters_none : (l : Ledger) (d : ℕ) → 0 ≡ meters_sum l d 0
+meters_none : (l : Ledger) (d : ℕ) → 0 ≡ meters_sum l d 0
 unfolding meters_sum
 meters_none l d = refl
 
-pub meters_more : (l : Ledger) (d n : ℕ) → meters_sum l d (n + 1) ≡ meters_sum l d n + interval_at l (n + 1) d
+meters_more : (l : Ledger) (d n : ℕ) → meters_sum l d (n + 1) ≡ meters_sum l d n + interval_at l (n + 1) d
 unfolding meters_sum
 meters_more l d n =
     ap sum (map-range_with_len_more (λ m. interval_at l m d) 1 n (n + 1) (omega arith)) ∙ sum_by_push (λ x. x) (map (λ m. interval_at l m d) (range_with_len 1 n)) (interval_at l (n + 1) d)
@@ -56,12 +56,24 @@ interval_bounded l d n within few =
     let same = get_or-take (l.opening.days * 32) (vec_items l.intervals) (d * 32 + n) 0 inside in
     leb-true _ _ (is_true _ (rw same at passes))
 
--- what is read there is the energy, and within its limit
-pub interval_here : (l : Ledger) (d n x : ℕ) → d < l.opening.days → n < 32 → x ≡ get_or (vec_items l.intervals) (d * 32 + n) x → (x ≡ interval_at l (n + 1) d) × (x ≤ 100000000)
-interval_here l d n x within few read =
-    let inside : d * 32 + n < length (vec_items l.intervals) = omega (arith, l.intervals_long, l.intervals.ok.0) in
-    let here : x ≡ get_or (vec_items l.intervals) (d * 32 + n) 0 = get_or_read (vec_items l.intervals) (d * 32 + n) x inside read 0 in
-    (here ∙ interval_read l d n within few, omega (arith, here, interval_bounded l d n within few))
+-- the energies of a day stand in a row, and each is within its limit
+pub day_energies : (l : Ledger) (d n : ℕ) → d < l.opening.days → n ≤ 32 → (sum (take n (drop (d * 32) (vec_items l.intervals))) ≡ meters_sum l d n) × (sum (take n (drop (d * 32) (vec_items l.intervals))) ≤ n * 100000000)
+day_energies l d zero within few = (meters_none l d, omega arith)
+day_energies l d (suc n) within few =
+    let row = drop (d * 32) (vec_items l.intervals) in
+    let before = day_energies l d n within (omega arith) in
+    let long : n < length row = omega (arith, length-drop (d * 32) (vec_items l.intervals), l.intervals_long, l.intervals.ok.0) in
+    let read : get_or row n 0 ≡ get_or (vec_items l.intervals) (d * 32 + n) 0 = get_or-drop (d * 32) (vec_items l.intervals) n 0 in
+    let more : sum (take (n + 1) row) ≡ sum (take n row) + get_or row n 0 = ap sum (take_more row n 0 long) ∙ sum_by_push (λ x. x) (take n row) (get_or row n 0) in
+    let next : n + 1 ≡ suc n = omega arith in
+    let here = interval_read l d n within few in
+    let bound = interval_bounded l d n within few in (
+      ap (λ k. sum (take k row)) (sym next) ∙ omega (arith, more, read, here, before.0, meters_more l d n) ∙ ap (meters_sum l d) next,
+      subst (λ k. sum (take k row) ≤ k * 100000000) next (omega (arith, more, read, bound, before.1)),
+    )
+
+pub row_of : {xs ys : List ℕ} (d : ℕ) → xs ≡ ys → take (d * 32 + 32 - d * 32) (drop (d * 32) xs) ≡ take 32 (drop (d * 32) ys)
+row_of {xs} {ys} d same = let few : d * 32 + 32 - d * 32 ≡ 32 = omega arith in ap (λ k. take k (drop (d * 32) xs)) few ∙ ap (λ l. take 32 (drop (d * 32) l)) same
 
 map_same : (f g : ℕ → ℕ) → ((k : ℕ) → f k ≡ g k) → (xs : List ℕ) → map f xs ≡ map g xs
 map_same f g same [] = refl

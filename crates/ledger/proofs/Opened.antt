@@ -1,5 +1,5 @@
 -- A ledger that opens has been told nothing. Assumes nothing.
-use Rattle.std.proofs.Common.{◌≡◌, ℕ, zero, suc, ◌+◌, ◌-◌, ◌*◌, ◌<◌, ◌≤◌, min, Bool, true, false, cond, not, ◌&&◌, T, ltb, leb, List, [], ◌∷◌, ◌++◌, map, length, get_or, take, drop, replicate, Some, None, vec_items, vec_len, count_by, Option, sym, refl, ap, ◌∙◌, ⊎_elim, zero-add, arith}
+use Rattle.std.proofs.Common.{◌≡◌, ℕ, zero, suc, ◌+◌, ◌-◌, ◌*◌, ◌<◌, ◌≤◌, min, Bool, true, false, cond, not, ◌&&◌, T, ltb, leb, List, [], ◌∷◌, ◌++◌, map, length, get_or, take, drop, replicate, Some, None, vec_items, vec_len, count_by, Option, sym, refl, ap, ◌∙◌, ⊎_elim, append-nil, zero-add, arith}
 use Rattle.std.proofs.lemmas.List.{drop_all, drop_at, get_or_append_left, length-map, length-take-le, take_all, take-append-le}
 use Rattle.std.proofs.lemmas.Bool.{cases_lt, cond_both, and_from, and_parts, leb-true, ltb-true, not-false, or_parts, true≢false}
 use Rattle.std.specs.List.{list_all}
@@ -10,9 +10,10 @@ use Rattle.histories.specs.Calls.{between, meters}
 use Rattle.histories.specs.declared.entry.Reading.{Reading}
 use Rattle.reading_places.proofs.Held.{count_cons}
 use Rattle.reading_places.specs.Places.{placed}
-use Rattle.ledger.specs.Limits.{gate_within, interval_within, opening_within}
-use Rattle.ledger.specs.Opened.{beyond, opening_refusal, setting_of, short_lists}
+use Rattle.ledger.specs.Limits.{interval_within, opening_within}
+use Rattle.ledger.specs.Opened.{beyond, opening_of, opening_refusal, setting_of, short_lists}
 use Rattle.ledger.specs.Told.{Follows}
+use Rattle.ledger.specs.declared.opening.OpeningRequest.{OpeningRequest}
 use Rattle.ledger.specs.declared.state.Ledger.{Ledger}
 
 cond_none : (b : Bool) (n : ℕ) (rest : Option ℕ) → cond b (Some n) rest ≡ None → (b ≡ false) × (rest ≡ None)
@@ -24,29 +25,25 @@ not_late true early same e = not-false early e
 not_late false early same e = absurd (true≢false (sym same))
 
 -- what an accepted opening says of its numbers
-pub record Accepted (first days points unaccounted interval_places reading_places : ℕ) : Type 0 where
-  pub within : T (opening_within (record { first = day_number_of first; days = days; points = points; unaccounted = unaccounted }))
-  pub long : days * 32 ≤ interval_places
+pub record Accepted (q : OpeningRequest) (interval_places : ℕ) : Type 0 where
+  pub within : T (opening_within (opening_of q))
+  pub long : q.days * 32 ≤ interval_places
 
-pub accepted : (first days points unaccounted interval_places reading_places : ℕ) → opening_refusal first days points unaccounted interval_places reading_places ≡ None → Accepted first days points unaccounted interval_places reading_places
-accepted first days points unaccounted interval_places reading_places e =
-    let three = cond_none (beyond first days points unaccounted) 3 _ e in
-    let four = cond_none (not (is_date first)) 4 _ three.1 in
-    let fifteen = cond_none (short_lists days interval_places reading_places) 15 _ four.1 in
+pub accepted : (q : OpeningRequest) (interval_places reading_places : ℕ) → opening_refusal q interval_places reading_places ≡ None → Accepted q interval_places
+accepted q interval_places reading_places e =
+    let three = cond_none (beyond q) 3 _ e in
+    let four = cond_none (not (is_date q.first_date)) 4 _ three.1 in
+    let fifteen = cond_none (short_lists q.days interval_places reading_places) 15 _ four.1 in
     let limits = or_parts _ _ three.0 in
     let numbers = not-false _ limits.0 in
-    let days_within = and_parts (between 1 400 days) _ numbers in
-    let rest_within = and_parts (between 1 256 points) (leb unaccounted 2000) days_within.1 in
-    let real : is_date first ≡ true = not-false _ four.0 in
-    let early : ltb (day_number_of first + days) days_in_all ≡ true = not_late _ _ real limits.1 in
+    let days_within = and_parts (between 1 400 q.days) _ numbers in
+    let rest_within = and_parts (between 1 256 q.points) (leb q.unaccounted 2000) days_within.1 in
+    let real : is_date q.first_date ≡ true = not-false _ four.0 in
+    let early : ltb (day_number_of q.first_date + q.days) days_in_all ≡ true = not_late _ _ real limits.1 in
     record {
-      within = rw (and_from _ _ (and_parts (leb 1 days) (leb days 400) days_within.0).1 (and_from _ _ (and_parts (leb 1 points) (leb points 256) rest_within.0).1 (and_from _ _ rest_within.1 early))) tt;
-      long = leb-true _ _ (and_parts (leb (days * 32) interval_places) (leb 1 reading_places) (not-false _ fifteen.0)).0;
+      within = rw (and_from _ _ (and_parts (leb 1 q.days) (leb q.days 400) days_within.0).1 (and_from _ _ (and_parts (leb 1 q.points) (leb q.points 256) rest_within.0).1 (and_from _ _ rest_within.1 early))) tt;
+      long = leb-true _ _ (and_parts (leb (q.days * 32) interval_places) (leb 1 reading_places) (not-false _ fifteen.0)).0;
     }
-
-pub none_within : (n : ℕ) → T (list_all gate_within (replicate n None))
-none_within zero = tt
-none_within (suc n) = none_within n
 
 -- 0, whatever was there
 abbrev pub zero_of : ℕ → ℕ
@@ -88,9 +85,9 @@ module _ (n : ℕ) (xs ys : List ℕ) (long : n ≤ length xs) (is : ys ≡ map 
   pub cleared_rest : drop n ys ≡ drop n xs
   cleared_rest = ap (drop n) is ∙ drop_at (map zero_of (take n xs)) (drop n xs) n front_long
 
-none_counted : (test : Reading → Bool) (places : List (Option Reading)) → count_by (placed test) (map (λ x. None) places) ≡ 0
-none_counted test [] = refl
-none_counted test (place ∷ places) = count_cons (placed test) None (map (λ x. None) places) ∙ zero-add _ ∙ none_counted test places
+none_counted : (test : Reading → Bool) (n : ℕ) → count_by (placed test) (replicate n None) ≡ 0
+none_counted test zero = refl
+none_counted test (suc n) = count_cons (placed test) None (replicate n None) ∙ zero-add _ ∙ none_counted test n
 
 in_row : (days d m : ℕ) → (ltb d days && between 1 meters m) ≡ true → d * 32 + (m - 1) < days * 32
 in_row days d m inside =
@@ -102,8 +99,8 @@ in_row days d m inside =
     omega arith
 
 -- a ledger of empty tables follows the empty history
-pub told_nothing : (first days points unaccounted : ℕ) (l : Ledger) (xs : List ℕ) (ps : List (Option Reading)) (n : ℕ) (m : Meaning) (w : ℕ → Meaning) → l.opening ≡ record { first = day_number_of first; days = days; points = points; unaccounted = unaccounted } → l.gates ≡ replicate 400 None → days * 32 ≤ length xs → vec_items l.intervals ≡ map zero_of (take (days * 32) xs) ++ drop (days * 32) xs → l.enrolments ≡ replicate 256 None → vec_items l.places ≡ map (λ x. None) ps → vec_len l.places ≡ n → Follows (setting_of first days points unaccounted n m w) [] l
-told_nothing first days points unaccounted l xs ps n m w opening gates long intervals enrolments places room = record {
+pub told_nothing : (q : OpeningRequest) (l : Ledger) (xs : List ℕ) (n : ℕ) (m : Meaning) (w : ℕ → Meaning) → l.opening ≡ opening_of q → l.gates ≡ replicate 400 None → q.days * 32 ≤ length xs → vec_items l.intervals ≡ map zero_of (take (q.days * 32) xs) ++ drop (q.days * 32) xs → l.enrolments ≡ replicate 256 None → vec_items l.places ≡ replicate n None → vec_len l.places ≡ n → Follows (setting_of q n m w) [] l
+told_nothing q l xs n m w opening gates long intervals enrolments places room = record {
   first = ap (λ o. o.first) opening;
   days = ap (λ o. o.days) opening;
   points = ap (λ o. o.points) opening;
@@ -112,15 +109,20 @@ told_nothing first days points unaccounted l xs ps n m w opening gates long inte
   gates = λ d. rw (gates, none_read None 400 d) (cond_same (ltb d l.opening.days) None);
   intervals = λ meter d.
       cond_both (ltb d l.opening.days && between 1 meters meter) (get_or (vec_items l.intervals) (d * 32 + (meter - 1)) 0) 0 (λ (x : ℕ). x ≡ 0)
-      (λ inside. cleared_read (days * 32) xs (vec_items l.intervals) long intervals (d * 32 + (meter - 1)) (in_row days d meter (rw (ap (λ o. o.days) opening) at inside))) (λ _. refl);
+      (λ inside. cleared_read (q.days * 32) xs (vec_items l.intervals) long intervals (d * 32 + (meter - 1)) (in_row q.days d meter (rw (ap (λ o. o.days) opening) at inside))) (λ _. refl);
   enrolments = λ p. rw (enrolments, none_read None 256 (p - 1)) (cond_same (between 1 l.opening.points p) None);
-  readings = λ test. rw places (none_counted test ps);
+  readings = λ test. rw places (none_counted test n);
 }
 
--- a list of fewer than n places is cleared whole
-pub cleared_all : (n i : ℕ) (xs : List ℕ) → i ≡ min n (length xs) → map zero_of (take i xs) ++ drop i xs ≡ map zero_of (take n xs) ++ drop n xs
-cleared_all n i xs is =
-    ⊎_elim
+zeros : (xs : List ℕ) → map zero_of xs ≡ replicate (length xs) 0
+zeros [] = refl
+zeros (x ∷ xs) = ap (λ rest. 0 ∷ rest) (zeros xs)
+
+-- a list whose first n places are cleared, or all where it has fewer
+pub cleared_front : (n i : ℕ) (xs : List ℕ) → i ≡ min n (length xs) → replicate (length (take i xs)) 0 ++ drop i xs ≡ map zero_of (take n xs) ++ drop n xs
+cleared_front n i xs is =
+    ap (λ front. front ++ drop i xs) (sym (zeros (take i xs)))
+    ∙ ⊎_elim
     (λ (short : length xs < n).
     let all : i ≡ length xs = omega arith in
     (λ k. map zero_of (same_front all short k) ++ same_rest all short k))
@@ -132,3 +134,12 @@ cleared_all n i xs is =
 
     same_rest : i ≡ length xs → length xs < n → drop i xs ≡ drop n xs
     same_rest all short = drop_all i xs (omega arith) ∙ sym (drop_all n xs (omega arith))
+
+-- a list written over from its front to its end
+pub written_over : {X : Type 0} (n : ℕ) (xs ys : List X) → length xs ≡ n → length ys ≡ n → take n (xs ++ drop (length xs) ys) ≡ xs
+written_over n xs ys long same = ap (λ rest. take n (xs ++ rest)) (drop_all (length xs) ys (omega arith)) ∙ ap (take n) (append-nil xs) ∙ take_all n xs (omega arith)
+
+-- what is none alone
+pub only_none : {X : Type 0} (P : Option X → Type 0) → ((x : X) → P (Some x) → ⊥) → (y : Option X) → P y → y ≡ None
+only_none P never None same = refl
+only_none P never (Some x) same = absurd (never x same)

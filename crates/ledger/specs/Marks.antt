@@ -1,5 +1,5 @@
 -- Marks, replaced readings and room, as the tables of a ledger have them.
-use Rattle.std.specs.Prelude.{ℕ, Bool, not, ◌&&◌, ◌||◌, vec_items, vec_len, count_by, ◌==◌, nat_le, nat_lt}
+use Rattle.std.specs.Prelude.{ℕ, ◌<◌, Bool, not, ◌&&◌, ◌||◌, vec_items, vec_len, count_by, ◌==◌, nat_le, nat_lt}
 use Rattle.readings.specs.Types.{firm}
 use Rattle.histories.specs.Calls.{started_before}
 use Rattle.histories.specs.Readings.{replaces, starts}
@@ -27,6 +27,10 @@ end_allowed_at l r = nat_lt r.start r.end && (mark_at l r.point r.end || after_m
 -- a reading is soft and would replace a firm one
 abbrev pub soft_over_firm_at : Ledger → Reading → Bool
 soft_over_firm_at l r = not (firm r.reading_type) && some_at l (λ old. replaces r old && firm old.reading_type)
+
+-- the readings that stay beside a new one leave a place for it
+abbrev pub HasRoomFor : Ledger → Reading → Type 0
+HasRoomFor l r = count_by (placed (λ old. not (replaces r old))) (vec_items l.places) < vec_len l.places
 
 -- the readings that stay beside a new one leave no place for it
 abbrev pub full_at : Ledger → Reading → Bool

@@ -1,5 +1,5 @@
 -- What a ledger says, and when it says what a history has told.
-use Rattle.std.specs.Prelude.{◌≡◌, ℕ, ◌+◌, ◌-◌, ◌*◌, Bool, cond, ◌&&◌, ◌∷◌, map, Some, None, Ok, Err, vec_items, vec_len, sum, count_by, Option, Result, nat_lt, slice_index, slice_index_or}
+use Rattle.std.specs.Prelude.{◌≡◌, ℕ, ◌+◌, ◌-◌, ◌*◌, Bool, cond, ◌&&◌, ◌∷◌, map, Some, None, Ok, Err, vec_items, vec_len, sum, count_by, Option, Result, OnErr, nat_lt, slice_index, slice_index_or}
 use Rattle.std.specs.List.{range_with_len}
 use Rattle.refusals.specs.Numbers.{number_of, day_named}
 use Rattle.refusals.specs.declared.refusal.Refusal.{Refusal}
@@ -12,6 +12,7 @@ use Rattle.histories.specs.declared.entry.Entry.{Entry}
 use Rattle.histories.specs.declared.entry.GateDay.{GateDay}
 use Rattle.histories.specs.declared.entry.Reading.{Reading}
 use Rattle.reading_places.specs.Places.{placed}
+use Rattle.ledger.specs.Beyond.{beyond_days}
 use Rattle.ledger.specs.declared.state.Ledger.{Ledger}
 
 -- the gate energies of a day of the book; another day has none
@@ -30,6 +31,7 @@ meters_sum l d n = sum (map (λ m. interval_at l m d) (range_with_len 1 n))
 abbrev pub enrolment_at : Ledger → ℕ → Option Enrolment
 enrolment_at l p = cond (between 1 l.opening.points p) (slice_index_or l.enrolments (p - 1) None) None
 
+-- A history kept as a ghost field of the ledger would promise less: each clause says 'for every history that it follows'.
 -- the ledger says what the history has told since the opening, and its places hold the held readings, each in one place:
 -- whatever is asked of readings, as many places as held readings pass
 pub record Follows (s : Setting) (h : History) (l : Ledger) : Type 0 where
@@ -56,6 +58,12 @@ Entered s h l (Err e) = Follows s h l
 -- whatever the ledger followed, the answer is the law's and the ledger follows what was accepted
 abbrev pub Answered : Call → Ledger → Result Entry Refusal → Ledger → Type 0
 Answered c before r after = (s : Setting) (h : History) → Follows s h before → Judged s h c (λ e. e) r × Entered s h after r
+
+-- an entry is made or refused: a refused one leaves the ledger as it was, and none touches what lies beyond the book's days
+pub record Enters (c : Call) (before : Ledger) (r : Result Entry Refusal) (after : Ledger) : Type 0 where
+  pub refused : OnErr r (after ≡ before)
+  pub law : Answered c before r after
+  pub beyond : beyond_days after ≡ beyond_days before
 
 -- the answer to a question is the law's refusal, with the day that it names, or the place of the day asked for
 abbrev pub Asked : Setting → History → Call → ℕ → Result ℕ Refusal → Type 0

@@ -1,15 +1,9 @@
 ghost use Rattle.std.specs.Prelude.{◌≡◌};
 
+use super::lists::Lists;
 use super::opening::Opening;
 use super::state::Ledger;
 use histories::Reading;
-
-// The two lists of a closed ledger.
-#[derive(Drop)]
-pub struct Closed {
-    pub intervals: Vec<u64>,
-    pub places: Vec<Option<Reading>>,
-}
 
 impl Ledger {
     // How the book was opened.
@@ -34,11 +28,11 @@ impl Ledger {
     }
 
     // Ends the ledger and gives its two lists back as they are.
-    pub fn close(self) -> Closed
+    pub fn close(self) -> Lists
         ensures intervals { result.intervals ≡ self.intervals }
         ensures places { result.places ≡ self.places }
     {
-        Closed {
+        Lists {
             intervals: self.intervals,
             places: self.places,
         }

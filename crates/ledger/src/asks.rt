@@ -4,9 +4,8 @@ ghost use Rattle.histories.specs.History.{History, Setting};
 ghost use Rattle.histories.specs.declared.call.Call.TheVariants.{AskDay, AskFigure, AskRetailer};
 ghost use Rattle.ledger.specs.Told.{Asked, Follows};
 
-use super::limits::RETAILERS;
+use super::limits::retailer_within;
 use super::state::Ledger;
-use calendar::day_number_of;
 use refusals::Refusal;
 
 impl Ledger {
@@ -24,8 +23,7 @@ impl Ledger {
         if !self.has_point(point) {
             return Err(Refusal::BeyondLimits);
         }
-        let number = day_number_of(date)?;
-        let day = self.place_of(number, 0)?;
+        let day = self.day_at(date)?;
         if self.enrolment(point).is_none() {
             return Err(Refusal::PointNotEnrolled);
         }
@@ -36,8 +34,7 @@ impl Ledger {
     pub fn judge_day(&self, date: u32) -> Result<u32, Refusal>
         ensures { (s : Setting) (h : History) → Follows s h self.now → Asked s h (AskDay date) date result }
     {
-        let number = day_number_of(date)?;
-        let day = self.place_of(number, 0)?;
+        let day = self.day_at(date)?;
         if !self.has_load(day) {
             return Err(Refusal::AskedDayWithoutLoad { date });
         }
@@ -48,10 +45,9 @@ impl Ledger {
     pub fn judge_retailer(&self, retailer: u32, date: u32) -> Result<u32, Refusal>
         ensures { (s : Setting) (h : History) → Follows s h self.now → Asked s h (AskRetailer retailer date) date result }
     {
-        if retailer < 1 || retailer > RETAILERS {
+        if !retailer_within(retailer) {
             return Err(Refusal::BeyondLimits);
         }
-        let number = day_number_of(date)?;
-        self.place_of(number, 0)
+        self.day_at(date)
     }
 }

@@ -1,11 +1,11 @@
-ghost use Rattle.std.specs.Prelude.{ℕ, ◌<◌, IfOk};
+ghost use Rattle.std.specs.Prelude.{IfOk};
 ghost use Rattle.histories.specs.History.{History, Setting};
 ghost use Rattle.histories.specs.declared.call.Call.TheVariants.{EnterDegreeDays};
 ghost use Rattle.histories.specs.declared.entry.Entry.TheVariants.{DegreeDaysEntered};
+ghost use Rattle.ledger.specs.Days.{HasDay};
 ghost use Rattle.ledger.specs.Told.{Answered, Follows, Judged};
 
 use super::state::Ledger;
-use calendar::day_number_of;
 use estimators::GREATEST_COUNT;
 use histories::Entry;
 use refusals::Refusal;
@@ -13,14 +13,13 @@ use refusals::Refusal;
 impl Ledger {
     // The day of a degree-day count that can be entered. The estimator keeps the count; the ledger does not change.
     pub fn judge_degree_days(&self, date: u32, count: u32) -> Result<u32, Refusal>
-        ensures fits { IfOk result (λ day. day < self.now.opening.days) }
+        ensures fits { IfOk result (HasDay self.now) }
         ensures law { (s : Setting) (h : History) → Follows s h self.now → Judged s h (EnterDegreeDays date count) (λ day. DegreeDaysEntered day count) result }
     {
         if count > GREATEST_COUNT {
             return Err(Refusal::BeyondLimits);
         }
-        let number = day_number_of(date)?;
-        self.place_of(number, 0)
+        self.day_at(date)
     }
 
     // Judges the degree-day count of a day. The estimator keeps it; the ledger does not change.

@@ -3,13 +3,11 @@ ghost use Rattle.histories.specs.Calls.{between};
 ghost use Rattle.histories.specs.History.{History, Setting, enrolment_of};
 ghost use Rattle.histories.specs.declared.call.Call.TheVariants.{Enrol};
 ghost use Rattle.histories.specs.declared.entry.Entry.TheVariants.{Enrolled};
-ghost use Rattle.ledger.specs.Beyond.{beyond_days};
-ghost use Rattle.ledger.specs.Told.{Answered, Follows, Judged, enrolment_at};
+ghost use Rattle.ledger.specs.Told.{Enters, Follows, Judged, enrolment_at};
 ghost use Rattle.ledger.specs.Changes.{WithEnrolment};
 
-use super::limits::RETAILERS;
+use super::limits::retailer_within;
 use super::state::Ledger;
-use calendar::day_number_of;
 use histories::{Enrolment, Entry};
 use refusals::Refusal;
 
@@ -18,7 +16,7 @@ impl Ledger {
     pub(crate) fn has_point(&self, point: u32) -> bool
         ensures { result ≡ between 1 self.now.opening.points point }
     {
-        1 <= point && point <= self.opening.points
+        (1..=self.opening.points).contains(&point)
     }
 
     // The enrolment of a point, if it has one.
@@ -37,11 +35,10 @@ impl Ledger {
         ensures fits { OnOk result ((1 ≤ point) × (point ≤ self.now.opening.points)) }
         ensures law { (s : Setting) (h : History) → Follows s h self.now → Judged s h (Enrol point retailer start) (λ e. Enrolled point e) result }
     {
-        if !self.has_point(point) || retailer < 1 || retailer > RETAILERS {
+        if !self.has_point(point) || !retailer_within(retailer) {
             return Err(Refusal::BeyondLimits);
         }
-        let number = day_number_of(start)?;
-        let start = self.place_of(number, 0)?;
+        let start = self.day_at(start)?;
         if self.enrolment(point).is_some() {
             return Err(Refusal::PointEnrolledAlready);
         }
@@ -59,9 +56,7 @@ impl Ledger {
 
     // Enrols a point with a retailer from a day on. A point is enrolled once.
     pub fn enrol(&mut self, point: u32, retailer: u32, start: u32) -> Result<Entry, Refusal>
-        ensures refused { OnErr result (self.new ≡ self.old) }
-        ensures law { Answered (Enrol point retailer start) self.old result self.new }
-        ensures beyond { beyond_days self.new ≡ beyond_days self.old }
+        ensures { Enters (Enrol point retailer start) self.old result self.new }
     {
         let enrolment = self.judge_enrolment(point, retailer, start)?;
         self.put_enrolment(point, enrolment);

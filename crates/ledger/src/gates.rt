@@ -1,46 +1,36 @@
-ghost use Rattle.std.specs.Prelude.{◌≡◌, ℕ, ◌<◌, T, length, IfOk, Option, OnErr, slice_set};
+ghost use Rattle.std.specs.Prelude.{◌<◌, T, length, IfOk, Option};
 ghost use Rattle.histories.specs.History.{History, Setting};
 ghost use Rattle.histories.specs.declared.call.Call.TheVariants.{EnterGate};
 ghost use Rattle.histories.specs.declared.entry.Entry.TheVariants.{GateEntered};
-ghost use Rattle.ledger.specs.Beyond.{beyond_days};
 ghost use Rattle.ledger.specs.Limits.{gate_within};
-ghost use Rattle.ledger.specs.Told.{Answered, Follows, Judged};
+ghost use Rattle.ledger.specs.Days.{HasDay};
+ghost use Rattle.ledger.specs.Told.{Enters, Follows, Judged};
 ghost use Rattle.ledger.specs.Changes.{WithGate};
 
 use super::state::Ledger;
-use calendar::day_number_of;
 use histories::{Entry, GateDay};
 use loads::LARGEST_GATE;
 use refusals::Refusal;
 
-// Writes the gate energies of a day into the table of gates.
-fn write_gate(gates: &mut [Option<GateDay>], day: usize, gate: GateDay)
-    requires { day < length gates.old }
-    ensures { gates.new ≡ slice_set gates.old day (Option.Some gate) }
-{
-    gates[day] = Some(gate);
-}
-
 impl Ledger {
     // The day of a gate entry that can be made.
     fn judge_gate(&self, date: u32, gate: GateDay) -> Result<u32, Refusal>
-        ensures fits { IfOk result (λ day. (day < self.now.opening.days) × T (gate_within (Option.Some gate))) }
+        ensures fits { IfOk result (λ day. HasDay self.now day × T (gate_within (Option.Some gate))) }
         ensures law { (s : Setting) (h : History) → Follows s h self.now → Judged s h (EnterGate date gate.energy_in gate.energy_out) (λ day. GateEntered day gate) result }
     {
         if gate.energy_in > LARGEST_GATE || gate.energy_out > LARGEST_GATE {
             return Err(Refusal::BeyondLimits);
         }
-        let number = day_number_of(date)?;
-        self.place_of(number, 0)
+        self.day_at(date)
     }
 
     // Gives a day its gate energies.
     fn put_gate(&mut self, day: u32, gate: GateDay)
-        requires { (day < self.old.opening.days) × (T (gate_within (Option.Some gate))) }
+        requires { HasDay self.old day × T (gate_within (Option.Some gate)) }
         ensures within { day < length self.old.gates }
         ensures after { WithGate day gate self.old self.new }
     {
-        write_gate(&mut self.gates, day as usize, gate);
+        self.gates[day as usize] = Some(gate);
     }
 
     // Enters the energy into and out of the area on a day. A later entry for a day replaces the earlier one.
@@ -50,9 +40,7 @@ impl Ledger {
         energy_in: u64,
         energy_out: u64,
     ) -> Result<Entry, Refusal>
-        ensures refused { OnErr result (self.new ≡ self.old) }
-        ensures law { Answered (EnterGate date energy_in energy_out) self.old result self.new }
-        ensures beyond { beyond_days self.new ≡ beyond_days self.old }
+        ensures { Enters (EnterGate date energy_in energy_out) self.old result self.new }
     {
         let gate = GateDay {
             energy_in,

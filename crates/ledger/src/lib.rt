@@ -12,13 +12,14 @@ mod gates;
 mod holding;
 mod intervals;
 mod limits;
+mod lists;
 mod marks;
 mod open;
 mod opening;
 mod spans;
 mod state;
 
-pub use access::Closed;
+pub use lists::Lists;
 pub use open::{Unopened, clear_front, judge_opening};
-pub use opening::Opening;
+pub use opening::{Opening, OpeningRequest};
 pub use state::Ledger;

@@ -1,3 +1,6 @@
+ghost use Rattle.std.specs.Prelude.{◌≡◌};
+ghost use Rattle.histories.specs.Calls.{between, retailers};
+
 // The interval meters of an area, numbered from 1.
 pub(crate) const METERS: u32 = 32;
 
@@ -9,3 +12,10 @@ pub(crate) const RETAILERS: u32 = 16;
 
 // The most energy of a reading.
 pub(crate) const LARGEST_ENERGY: i64 = 10_000_000;
+
+// Whether there is such a retailer.
+pub(crate) fn retailer_within(retailer: u32) -> bool
+    ensures { result ≡ between 1 retailers retailer }
+{
+    (1..=RETAILERS).contains(&retailer)
+}

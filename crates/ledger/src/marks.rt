@@ -1,95 +1,80 @@
-ghost use Rattle.std.specs.Prelude.{◌≡◌, count_by, not};
-ghost use Rattle.histories.specs.Calls.{after_all_marks, end_not_allowed, started_before};
-ghost use Rattle.histories.specs.History.{History, Setting, enrolment_of};
+ghost use Rattle.std.specs.Prelude.{◌≡◌, Bool, not, ◌&&◌, count_by, ◌==◌, nat_le};
+ghost use Rattle.std.specs.Option.{option_map};
+ghost use Rattle.std.specs.Fn.{FnReturnsAt};
+ghost use Rattle.histories.specs.Calls.{after_all_marks, end_not_allowed};
+ghost use Rattle.histories.specs.History.{History, Setting};
 ghost use Rattle.histories.specs.Readings as held;
-ghost use Rattle.reading_places.specs.Places.{placed};
+ghost use Rattle.histories.specs.declared.entry.Reading.{Reading};
+ghost use Rattle.reading_places.specs.Places.{AnswersAs, placed};
 ghost use Rattle.ledger.specs.Marks.{after_marks_at, end_allowed_at, mark_at, some_at};
 ghost use Rattle.ledger.specs.Told.{Follows, enrolment_at};
 
 use super::state::Ledger;
 use histories::Reading;
-use reading_places::{EndsFrom, EndsOn, ReadingTest, count_passing};
+use reading_places::count_passing;
 
 impl Ledger {
     // How many held readings pass a test.
-    pub(crate) fn count_held<C: ReadingTest>(&self, test: &C) -> usize
-        ensures value { result ≡ count_by (placed (C.ReadingTest.passes test.now)) self.now.places.items }
-        ensures law { (s : Setting) (h : History) → Follows s h self.now → result ≡ count_by (C.ReadingTest.passes test.now) (held.held_of h) }
+    pub(crate) fn count_held<F: Fn(&Reading) -> bool>(&self, test: F) -> usize
+        requires { F.IsAlwaysCallable test }
+        ensures value { (passes : Reading → Bool) → AnswersAs (FnReturnsAt F.Fn test) passes → result ≡ count_by (placed passes) self.now.places.items }
+        ensures law { (passes : Reading → Bool) → AnswersAs (FnReturnsAt F.Fn test) passes → (s : Setting) (h : History) → Follows s h self.now → result ≡ count_by passes (held.held_of h) }
     {
         count_passing(self.places.as_slice(), test)
     }
 
     // Whether some held reading passes a test.
-    pub(crate) fn holds_some<C: ReadingTest>(&self, test: &C) -> bool
-        ensures { result ≡ some_at self.now (C.ReadingTest.passes test.now) }
+    pub(crate) fn holds_some<F: Fn(&Reading) -> bool>(&self, test: F) -> bool
+        requires { F.IsAlwaysCallable test }
+        ensures { (passes : Reading → Bool) → AnswersAs (FnReturnsAt F.Fn test) passes → result ≡ some_at self.now passes }
     {
         self.count_held(test) > 0
     }
 
-    // Whether a point starts on a day.
-    fn starts_on(&self, point: u32, day: u32) -> bool
-        ensures value { result ≡ held.starts (enrolment_at self.now point) day }
-        ensures law { (s : Setting) (h : History) → Follows s h self.now → result ≡ held.starts (enrolment_of h point) day }
+    // Whether a reading that a point holds ends on a day.
+    fn holds_end_on(&self, point: u32, day: u32) -> bool
+        ensures { result ≡ some_at self.now (λ r. (r.point == point) && r.end == day) }
     {
-        match self.enrolment(point) {
-            Some(enrolment) => enrolment.start == day,
-            None => false,
-        }
+        self.holds_some(|reading| reading.point == point && reading.end == day)
     }
 
-    // Whether a point starts before a day.
-    fn starts_before(&self, point: u32, day: u32) -> bool
-        ensures value { result ≡ started_before (enrolment_at self.now point) day }
-        ensures law { (s : Setting) (h : History) → Follows s h self.now → result ≡ started_before (enrolment_of h point) day }
+    // Whether a reading that a point holds ends on a day or later.
+    fn holds_end_from(&self, point: u32, day: u32) -> bool
+        ensures { result ≡ some_at self.now (λ r. (r.point == point) && nat_le day r.end) }
     {
-        match self.enrolment(point) {
-            Some(enrolment) => enrolment.start < day,
-            None => false,
-        }
+        self.holds_some(|reading| reading.point == point && day <= reading.end)
     }
 
-    // Whether a point has a mark on a day: it starts there, or a reading that it holds ends there.
-    pub(crate) fn has_mark(&self, point: u32, day: u32) -> bool
-        ensures { result ≡ mark_at self.now point day }
+    // The start day of a point, if it is enrolled.
+    fn start_of(&self, point: u32) -> Option<u32>
+        ensures { result ≡ option_map (λ e. e.start) (enrolment_at self.now point) }
     {
-        self.starts_on(point, day) || self.holds_some(&EndsOn { point, day })
-    }
-
-    // Whether a point starts before a day and none of its readings ends on that day or later.
-    fn has_only_earlier_marks(&self, point: u32, day: u32) -> bool
-        ensures { result ≡ after_marks_at self.now point day }
-    {
-        self.starts_before(point, day) && !self.holds_some(&EndsFrom { point, day })
-    }
-
-    // Whether a reading ends after its start, and at a mark or later than every mark.
-    fn ends_at_or_after_marks(&self, reading: &Reading) -> bool
-        ensures { result ≡ end_allowed_at self.now reading.now }
-    {
-        reading.start < reading.end
-            && (self.has_mark(reading.point, reading.end)
-                || self.has_only_earlier_marks(reading.point, reading.end))
-    }
-
-    // The same, which is whether the rules allow the end of a reading.
-    pub(crate) fn may_end(&self, reading: &Reading) -> bool
-        ensures value { result ≡ end_allowed_at self.now reading.now }
-        ensures law { (s : Setting) (h : History) → Follows s h self.now → end_not_allowed h reading.now ≡ not result }
-    {
-        self.ends_at_or_after_marks(reading)
+        self.enrolment(point).map(|enrolment| enrolment.start)
     }
 
     // Whether a day is a mark of a point: its start day, or the end of a reading that it holds.
     pub fn is_mark(&self, point: u32, day: u32) -> bool
-        ensures { (s : Setting) (h : History) → Follows s h self.now → result ≡ held.mark h point day }
+        ensures value { result ≡ mark_at self.now point day }
+        ensures law { (s : Setting) (h : History) → Follows s h self.now → result ≡ held.mark h point day }
     {
-        self.has_mark(point, day)
+        self.start_of(point) == Some(day) || self.holds_end_on(point, day)
     }
 
     // Whether a point is enrolled and a day is later than all its marks.
     pub fn is_after_all_marks(&self, point: u32, day: u32) -> bool
-        ensures { (s : Setting) (h : History) → Follows s h self.now → result ≡ after_all_marks h point day }
+        ensures value { result ≡ after_marks_at self.now point day }
+        ensures law { (s : Setting) (h : History) → Follows s h self.now → result ≡ after_all_marks h point day }
     {
-        self.has_only_earlier_marks(point, day)
+        self.start_of(point).is_some_and(|start| start < day) && !self.holds_end_from(point, day)
+    }
+
+    // Whether the rules allow the end of a reading: it ends after its start, and at a mark or later than every mark.
+    pub(crate) fn may_end(&self, reading: &Reading) -> bool
+        ensures value { result ≡ end_allowed_at self.now reading.now }
+        ensures law { (s : Setting) (h : History) → Follows s h self.now → end_not_allowed h reading.now ≡ not result }
+    {
+        reading.start < reading.end
+            && (self.is_mark(reading.point, reading.end)
+                || self.is_after_all_marks(reading.point, reading.end))
     }
 }

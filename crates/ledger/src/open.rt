@@ -5,65 +5,49 @@ ghost use Rattle.ledger.specs.Limits.{interval_within, opening_within};
 ghost use Rattle.ledger.specs.Opened.{Judges, OpenedAs};
 
 use super::limits::METERS;
-use super::opening::Opening;
+use super::lists::Lists;
+use super::opening::{Opening, OpeningRequest};
 use super::state::Ledger;
-use calendar::day_number_of;
-use estimators::{DAYS, POINTS};
-use histories::Reading;
+use calendar::{DAYS_IN_ALL, day_number_of};
+use estimators::{DAYS, POINTS, day_within, point_within};
 use loads::LARGEST_UNACCOUNTED;
 use refusals::Refusal;
+use thiserror::Error;
 
-// The days from 1 January 2001 to 31 December 2099.
-const DAYS_IN_ALL: u32 = 36_159;
-
-// Why a ledger was not opened, and its lists as they were.
-#[derive(Drop)]
-pub struct Unopened {
+// Why a ledger, or a book over it, was not opened, and its lists as they were.
+#[derive(Debug, Drop, Error)]
+#[error("{refusal}")]
+pub struct Unopened<L> {
     pub refusal: Refusal,
-    pub intervals: Vec<u64>,
-    pub places: Vec<Option<Reading>>,
+    pub lists: L,
 }
 
 // Writes 0 into the first n places of a list, or into all where it has fewer.
-pub fn clear_front(list: &mut Vec<u64>, n: usize)
-    ensures items { list.new.items ≡ map (λ x. 0) (take n list.old.items) ++ drop n list.old.items }
-    ensures len { vec_len list.new ≡ vec_len list.old }
+pub fn clear_front(list: &mut [u64], n: usize)
+    ensures { list.new ≡ map (λ x. 0) (take n list.old) ++ drop n list.old }
 {
-    for i in 0..n.min(list.len()) {
-        list[i] = 0;
-    }
+    let n = n.min(list.len());
+    list[..n].fill(0);
 }
 
-// Frees every place.
-fn clear_places(places: &mut Vec<Option<Reading>>)
-    ensures items { places.new.items ≡ map (λ x. Option.None) places.old.items }
-    ensures len { vec_len places.new ≡ vec_len places.old }
-{
-    for i in 0..places.len() {
-        places[i] = None;
-    }
-}
-
-// Judges an opening: its numbers and its last day, its first date, and the lists.
+// Judges an opening: its numbers and its last day, its first date, and the places of its lists.
 pub fn judge_opening(
-    first: u32,
-    days: u32,
-    points: u32,
-    unaccounted: u64,
+    request: OpeningRequest,
     interval_places: usize,
     reading_places: usize,
 ) -> Result<Opening, Refusal>
-    ensures { Judges first days points unaccounted interval_places reading_places result }
+    ensures { Judges request interval_places reading_places result }
 {
-    if days < 1
-        || days > DAYS
-        || points < 1
-        || points > POINTS
-        || unaccounted > LARGEST_UNACCOUNTED
-    {
+    let OpeningRequest {
+        first_date,
+        days,
+        points,
+        unaccounted,
+    } = request;
+    if !day_within(days) || !point_within(points) || unaccounted > LARGEST_UNACCOUNTED {
         return Err(Refusal::BeyondLimits);
     }
-    let first = day_number_of(first)?;
+    let first = day_number_of(first_date)?;
     if first + days >= DAYS_IN_ALL {
         return Err(Refusal::BeyondLimits);
     }
@@ -80,53 +64,39 @@ pub fn judge_opening(
 
 impl Ledger {
     // A ledger with no gate, no enrolment, and these lists.
-    fn told_nothing(opening: Opening, intervals: Vec<u64>, places: Vec<Option<Reading>>) -> Ledger
-        requires { (T (opening_within opening)) × ((opening.days * 32 ≤ vec_len intervals) × (T (list_all interval_within (take (opening.days * 32) intervals.items)))) }
+    fn told_nothing(opening: Opening, lists: Lists) -> Ledger
+        requires { (T (opening_within opening)) × ((opening.days * 32 ≤ vec_len lists.intervals) × (T (list_all interval_within (take (opening.days * 32) lists.intervals.items)))) }
         ensures opening { result.opening ≡ opening }
         ensures gates { result.gates ≡ replicate last_day Option.None }
-        ensures intervals { result.intervals ≡ intervals }
+        ensures intervals { result.intervals ≡ lists.intervals }
         ensures enrolments { result.enrolments ≡ replicate last_point Option.None }
-        ensures places { result.places ≡ places }
+        ensures places { result.places ≡ lists.places }
     {
         Ledger {
             opening,
             gates: [None; DAYS as usize],
-            intervals,
+            intervals: lists.intervals,
             enrolments: [None; POINTS as usize],
-            places,
+            places: lists.places,
         }
     }
 
     // A ledger that has been told nothing, from a first date on, in the memory of two lists. Both come back where it is refused.
-    pub fn open(
-        first: u32,
-        days: u32,
-        points: u32,
-        unaccounted: u64,
-        mut intervals: Vec<u64>,
-        mut places: Vec<Option<Reading>>,
-    ) -> Result<Ledger, Unopened>
-        ensures law { OpenedAs first days points unaccounted intervals places result }
-        ensures refused { IfErr result (λ e. (e.intervals ≡ intervals) × (e.places ≡ places)) }
+    pub fn open(request: OpeningRequest, mut lists: Lists) -> Result<Ledger, Unopened<Lists>>
+        ensures law { OpenedAs request lists result }
+        ensures refused { IfErr result (λ e. e.lists ≡ lists) }
     {
-        match judge_opening(
-            first,
-            days,
-            points,
-            unaccounted,
-            intervals.len(),
-            places.len(),
-        ) {
+        // Both arms take the lists, which a closure of `map_err` would have to own.
+        match judge_opening(request, lists.intervals.len(), lists.places.len()) {
             Ok(opening) => {
-                clear_front(&mut intervals, (opening.days * METERS) as usize);
-                clear_places(&mut places);
-                Ok(Ledger::told_nothing(opening, intervals, places))
+                clear_front(
+                    lists.intervals.as_mut_slice(),
+                    (opening.days * METERS) as usize,
+                );
+                lists.places.fill(None);
+                Ok(Ledger::told_nothing(opening, lists))
             }
-            Err(refusal) => Err(Unopened {
-                refusal,
-                intervals,
-                places,
-            }),
+            Err(refusal) => Err(Unopened { refusal, lists }),
         }
     }
 }

@@ -1,47 +1,47 @@
-ghost use Rattle.std.specs.Prelude.{◌≡◌, ◌<◌, ◌≤◌, not, vec_len, count_by, OnOk};
+ghost use Rattle.std.specs.Prelude.{◌≡◌, ◌≤◌, ◌&&◌, OnOk};
 ghost use Rattle.histories.specs.Calls.{soft_over_firm};
 ghost use Rattle.histories.specs.History.{History, Setting};
 ghost use Rattle.histories.specs.Readings as held;
 ghost use Rattle.ledger.specs.Judging.{SpanJudged};
-ghost use Rattle.ledger.specs.Marks.{full_at, soft_over_firm_at};
-ghost use Rattle.reading_places.specs.Places.{placed};
+ghost use Rattle.ledger.specs.Marks.{HasRoomFor, full_at, soft_over_firm_at, some_at};
+ghost use Rattle.readings.specs.Types.{firm};
 ghost use Rattle.ledger.specs.Told.{Follows};
 
 use super::state::Ledger;
 use histories::Reading;
-use reading_places::{FirmReplacedBy, KeptBeside};
+use reading_places::replaces;
 use refusals::Refusal;
 
 impl Ledger {
-    // Whether a reading is soft and a firm one that it would replace is held.
-    fn softens_a_firm_one(&self, reading: &Reading) -> bool
-        ensures { result ≡ soft_over_firm_at self.now reading.now }
+    // Whether a firm reading is held that a new one would replace.
+    fn holds_firm_under(&self, reading: &Reading) -> bool
+        ensures { result ≡ some_at self.now (λ old. held.replaces reading.now old && firm old.reading_type) }
     {
-        !reading.reading_type.is_firm() && self.holds_some(&FirmReplacedBy { new: *reading })
+        self.holds_some(|old| replaces(reading, old) && old.reading_type.is_firm())
     }
 
-    // The same, which is whether the rules refuse a reading as soft over firm.
+    // Whether a reading is soft and a firm one that it would replace is held, which the rules refuse.
     fn is_soft_over_firm(&self, reading: &Reading) -> bool
         ensures value { result ≡ soft_over_firm_at self.now reading.now }
         ensures law { (s : Setting) (h : History) → Follows s h self.now → result ≡ soft_over_firm h reading.now }
     {
-        self.softens_a_firm_one(reading)
+        !reading.reading_type.is_firm() && self.holds_firm_under(reading)
     }
 
     // Whether the readings that stay beside a new one leave no place for it.
     fn is_full_beside(&self, reading: &Reading) -> bool
         ensures { result ≡ full_at self.now reading.now }
     {
-        self.count_held(&KeptBeside { new: *reading }) >= self.places.len()
+        self.count_held(|old| !replaces(reading, old)) >= self.places.len()
     }
 
     // Judges what a reading covers: its start, its end, the loads of its days, and the readings that are held.
     pub(crate) fn judge_span(&self, reading: &Reading) -> Result<(), Refusal>
         requires { reading.now.end ≤ self.now.opening.days }
-        ensures fits { OnOk result (count_by (placed (λ old. not (held.replaces reading.now old))) self.now.places.items < vec_len self.now.places) }
+        ensures fits { OnOk result (HasRoomFor self.now reading.now) }
         ensures law { (s : Setting) (h : History) → Follows s h self.now → SpanJudged s h reading.now result }
     {
-        if !self.has_mark(reading.point, reading.start) {
+        if !self.is_mark(reading.point, reading.start) {
             return Err(Refusal::StartIsNoMark);
         }
         if !self.may_end(reading) {

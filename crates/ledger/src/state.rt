@@ -8,6 +8,7 @@ use histories::{Enrolment, GateDay, Reading};
 
 // The gate energies by day, the interval energies day by day and by meter, the enrolments by point, and the held readings,
 // each in a place of its own.
+// Arrays of the greatest size and two lists of the caller's: no call of a ledger may allocate, so there are no maps here.
 #[derive(Drop)]
 pub struct Ledger {
     pub(crate) opening: Opening,

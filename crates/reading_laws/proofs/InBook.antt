@@ -51,16 +51,16 @@ limited s (Enrol point retailer start) three five = tt
 limited s (EnterGate date energy_in energy_out) three five = tt
 limited s (EnterInterval date meter energy) three five = tt
 limited s (EnterDegreeDays date count) three five = tt
-limited s (EnterReading point start end energy type) three five =
-    let numbers = and_parts (between 1 s.points point) (energy_within energy) (not-false _ three) in
-    let point_within = and_parts (leb 1 point) (leb point s.points) numbers.0 in
-    let dates = and_parts (in_book s 0 start) (in_book s 1 end) (not-false _ five) in
-    let end_within = and_parts (leb s.first (day_number_of end)) (ltb (day_number_of end) (s.first + s.days + 1)) dates.1 in
+limited s (EnterReading delivery) three five =
+    let numbers = and_parts (between 1 s.points delivery.point) (energy_within delivery.energy) (not-false _ three) in
+    let point_within = and_parts (leb 1 delivery.point) (leb delivery.point s.points) numbers.0 in
+    let dates = and_parts (in_book s 0 delivery.start) (in_book s 1 delivery.end) (not-false _ five) in
+    let end_within = and_parts (leb s.first (day_number_of delivery.end)) (ltb (day_number_of delivery.end) (s.first + s.days + 1)) dates.1 in
     record {
-      ends_in_book = omega (arith, ltb-true (day_number_of end) (s.first + s.days + 1) end_within.1);
-      point_low = leb-true 1 point point_within.0;
-      point_high = leb-true point s.points point_within.1;
-      energy_limited = energy_below energy numbers.1;
+      ends_in_book = omega (arith, ltb-true (day_number_of delivery.end) (s.first + s.days + 1) end_within.1);
+      point_low = leb-true 1 delivery.point point_within.0;
+      point_high = leb-true delivery.point s.points point_within.1;
+      energy_limited = energy_below delivery.energy numbers.1;
     }
 limited s (AskFigure point date) three five = tt
 limited s (AskDay date) three five = tt

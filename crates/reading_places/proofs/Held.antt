@@ -1,19 +1,20 @@
 -- Readings counted, freed and put into places. Assumes nothing.
-use Rattle.std.proofs.Common.{◌≡◌, ℕ, ◌+◌, ◌<◌, ◌≤◌, Bool, true, false, cond, not, ◌&&◌, ◌||◌, ltb, List, [], ◌∷◌, ◌++◌, map, length, get_or, take, drop, set, is_some, Some, None, count_by, filter, Option, sym, refl, ap, ◌∙◌, append-nil, zero-add, arith, length-set}
-use Rattle.std.proofs.lemmas.List.{drop_all, take_all}
-use Rattle.std.proofs.lemmas.List.Sums.{count_by-le-length, count_by_more_no, count_by_more_yes, sum_by-cons, sum_by-set}
+use Rattle.std.proofs.Common.{◌≡◌, ℕ, suc, ◌+◌, ◌<◌, Bool, true, false, cond, not, ◌&&◌, ◌||◌, ltb, List, [], ◌∷◌, map, length, get_or, set, is_some, Some, None, count_by, filter, Option, sym, refl, ap, ◌∙◌, zero-add, arith, length-set}
+use Rattle.std.proofs.lemmas.List.Sums.{count_by-le-length, sum_by-cons, sum_by-set}
 use Rattle.std.proofs.lemmas.Bool.{lt-ltb, true≢false}
+use Rattle.std.specs.Option.{MatchOption}
 use Rattle.histories.specs.Readings.{replaces, some_reading}
 use Rattle.histories.specs.declared.entry.Reading.{Reading}
-use Rattle.reading_places.specs.Places.{Taken, left_by, placed}
-
--- the end of a loop that goes over a list in place
-pub map_over_all : {X : Type 0} (f : X → X) (xs ys : List X) (i : ℕ) → length xs ≤ i → ys ≡ map f (take i xs) ++ drop i xs → ys ≡ map f xs
-map_over_all f xs ys i all over = over ∙ rw (take_all i xs all, drop_all i xs all) (append-nil (map f xs))
+use Rattle.reading_places.specs.Places.{AnswersAs, Taken, left_by, placed}
 
 -- the count of a list with one more in front
 pub count_cons : {X : Type 0} (p : X → Bool) (x : X) (xs : List X) → count_by p (x ∷ xs) ≡ cond (p x) 1 0 + count_by p xs
 count_cons p x xs = sum_by-cons (λ y. cond (p y) 1 0) x xs
+
+-- what a place says of its reading, by a test that answers as a predicate does
+pub placed_as : (passes : Reading → Bool) (place : Option Reading) (b : Bool) (answers : Reading → Bool → Type 0) → MatchOption place (b ≡ false) (λ r. answers r b) → AnswersAs answers passes → b ≡ placed passes place
+placed_as passes None b answers is same = is
+placed_as passes (Some r) b answers is same = same r b is
 
 some_here : (b rest : Bool) (n : ℕ) → rest ≡ ltb 0 n → (b || rest) ≡ ltb 0 (cond b 1 0 + n)
 some_here true rest n e = sym (lt-ltb 0 (1 + n) (omega arith))
@@ -70,8 +71,11 @@ none_since None e = refl
 none_since (Some x) e = absurd (true≢false e)
 
 -- places that are all taken have none free
-pub none_free : (places : List (Option Reading)) (i : ℕ) → count_by is_some (take i places) ≡ i → length places ≤ i → length places ≤ count_by is_some places
-none_free places i taken all = omega (arith, rw (take_all i places all) at taken)
+pub all_taken : (places : List (Option Reading)) → ((k : ℕ) → k < length places → is_some (get_or places k None) ≡ true) → count_by is_some places ≡ length places
+all_taken [] every = refl
+all_taken (place ∷ places) every =
+    let rest = all_taken places (λ k below. every (suc k) (omega arith)) in
+    count_cons is_some place places ∙ rw (every 0 (omega arith)) (omega (arith, rest))
 
 -- a free place leaves fewer taken than there are
 pub one_free : (places : List (Option Reading)) (k : ℕ) (r : Reading) → k < length places → get_or places k None ≡ None → count_by is_some places < length places
@@ -79,11 +83,6 @@ one_free places k r within free =
     let one_more = sum_by-set taken_by_one places k (Some r) None within in
     let none = ap (taken_by_one) free in
     omega (arith, one_more, none, count_by-le-length is_some (set places k (Some r)), length-set places k (Some r))
-
--- a count goes on
-pub count_more : {X : Type 0} (p : X → Bool) (xs : List X) (i n : ℕ) (d : X) (b : Bool) → i < length xs → n ≡ count_by p (take i xs) → b ≡ p (get_or xs i d) → cond b (n + 1) n ≡ count_by p (take (i + 1) xs)
-count_more p xs i n d true within so_far here = ap (λ m. m + 1) so_far ∙ sym (count_by_more_yes p xs i d within (sym here))
-count_more p xs i n d false within so_far here = so_far ∙ sym (count_by_more_no p xs i d within (sym here))
 
 some_placed : (place : Option Reading) → is_some place ≡ placed (λ _. true) place
 some_placed None = refl

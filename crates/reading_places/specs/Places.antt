@@ -3,6 +3,10 @@ use Rattle.std.specs.Prelude.{◌≡◌, ℕ, ◌<◌, Bool, false, cond, List, 
 use Rattle.histories.specs.Readings.{replaces}
 use Rattle.histories.specs.declared.entry.Reading.{Reading}
 
+-- a test answers every reading as a predicate does
+abbrev pub AnswersAs : (Reading → Bool → Type 0) → (Reading → Bool) → Type 0
+AnswersAs answers passes = (r : Reading) (b : Bool) → answers r b → b ≡ passes r
+
 -- a place holds a reading that passes a test
 abbrev pub placed : (Reading → Bool) → Option Reading → Bool
 placed test None = false

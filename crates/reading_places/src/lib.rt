@@ -4,5 +4,5 @@
 mod counting;
 mod replacing;
 
-pub use counting::{EndsFrom, EndsOn, FirmReplacedBy, KeptBeside, ReadingTest, count_passing};
+pub use counting::count_passing;
 pub use replacing::{free_replaced, replaces, take_place};

@@ -1,4 +1,4 @@
-ghost use Rattle.std.specs.Prelude.{◌≡◌, ◌<◌, true, false, not, map, is_some, vec_len, count_by, Option, nat_lt, slice_index_or, slice_set};
+ghost use Rattle.std.specs.Prelude.{◌≡◌, map, length, is_some, is_ok, count_by, nat_lt, OnOk, IfErr};
 ghost use Rattle.histories.specs.Readings as held;
 ghost use Rattle.reading_places.specs.Places.{Taken, left_by};
 
@@ -15,57 +15,28 @@ pub fn replaces(new: &Reading, old: &Reading) -> bool
 fn left_by(new: &Reading, place: Option<Reading>) -> Option<Reading>
     ensures { result ≡ left_by new.now place }
 {
-    match place {
-        Some(old) => { if replaces(new, &old) { None } else { Some(old) } }
-        None => None,
-    }
-}
-
-// Frees one place if a new reading replaces the one there.
-fn free_if_replaced(places: &mut Vec<Option<Reading>>, i: usize, new: &Reading)
-    requires { i < vec_len places.old }
-    ensures items { places.new.items ≡ slice_set places.old.items i (left_by new.now (slice_index_or places.old.items i Option.None)) }
-    ensures len { vec_len places.new ≡ vec_len places.old }
-{
-    places[i] = left_by(new, places[i]);
+    place.filter(|old| !replaces(new, old))
 }
 
 // Frees the places of the readings that a new one replaces.
-pub fn free_replaced(places: &mut Vec<Option<Reading>>, new: &Reading)
-    ensures items { places.new.items ≡ map (left_by new.now) places.old.items }
-    ensures len { vec_len places.new ≡ vec_len places.old }
+pub fn free_replaced(places: &mut [Option<Reading>], new: &Reading)
+    ensures { places.new ≡ map (left_by new.now) places.old }
 {
-    for i in 0..places.len() {
-        free_if_replaced(places, i, new);
+    for place in places.iter_mut() {
+        *place = left_by(new, *place);
     }
 }
 
-// Puts a reading into one place if that is free, and says whether it was.
-fn take_if_free(places: &mut Vec<Option<Reading>>, i: usize, reading: Reading) -> bool
-    requires { i < vec_len places.old }
-    ensures free { result ≡ not (is_some (slice_index_or places.old.items i Option.None)) }
-    ensures taken { result ≡ true → places.new.items ≡ slice_set places.old.items i (Option.Some reading) }
-    ensures kept { result ≡ false → places.new ≡ places.old }
-    ensures len { vec_len places.new ≡ vec_len places.old }
+// Puts a reading into the first free place. Where no place is free it comes back.
+pub fn take_place(places: &mut [Option<Reading>], reading: Reading) -> Result<(), Reading>
+    ensures free { is_ok result ≡ nat_lt (count_by (λ place. is_some place) places.old) (length places.old) }
+    ensures taken { OnOk result (Taken reading places.old places.new) }
+    ensures full { IfErr result (λ back. (back ≡ reading) × (places.new ≡ places.old)) }
 {
-    if places[i].is_some() {
-        return false;
-    }
-    places[i] = Some(reading);
-    true
-}
-
-// Puts a reading into a free place, and says whether there was one.
-pub fn take_place(places: &mut Vec<Option<Reading>>, reading: Reading) -> bool
-    ensures free { result ≡ nat_lt (count_by (λ place. is_some place) places.old.items) (vec_len places.old) }
-    ensures taken { result ≡ true → Taken reading places.old.items places.new.items }
-    ensures full { result ≡ false → places.new ≡ places.old }
-    ensures len { vec_len places.new ≡ vec_len places.old }
-{
-    for i in 0..places.len() {
-        if take_if_free(places, i, reading) {
-            return true;
-        }
-    }
-    false
+    let free = places
+        .iter()
+        .position(|place| place.is_none())
+        .ok_or(reading)?;
+    places[free] = Some(reading);
+    Ok(())
 }

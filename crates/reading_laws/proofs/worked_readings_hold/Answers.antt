@@ -2,7 +2,8 @@ use Rattle.std.proofs.Common.{pos, refl}
 use Rattle.readings.specs.declared.ReadingType.TheVariants.{Actual}
 use Rattle.calendar.specs.Digits.{is_date, day_number_of}
 use Rattle.calendar.specs.Gregorian.{leap, month_lengths, month_length, exists, days_before_month, year_length, days_before_year}
-use Rattle.histories.specs.declared.call.Call.TheVariants.{Enrol, EnterGate, EnterReading}
+use Rattle.histories.specs.declared.call.Call.TheVariants.{Enrol, EnterGate}
+use Rattle.reading_laws.specs.Worked.{told}
 use Rattle.reading_laws.proofs.worked_readings_hold.Goals as goal
 
 pub returns : goal.returns
@@ -13,7 +14,7 @@ returns c = record {
       (((tt, (Enrol 1 1 20240701, refl, refl)), (EnterGate 20240701 100 0, refl, refl)), (EnterGate 20240702 300 0, refl, refl)),
       (EnterGate 20240703 50 0, refl, refl),
     ),
-    (EnterReading 1 20240701 20240703 (pos 200) Actual, refl, refl),
+    (told 1 20240701 20240703 (pos 200) Actual, refl, refl),
   );
   negative = refl;
   not_enrolled = refl;

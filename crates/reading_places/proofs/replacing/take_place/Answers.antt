@@ -1,39 +1,17 @@
-use Rattle.std.proofs.Common.{◌≡◌, ◌+◌, ◌<◌, length, get_or, take, set, is_some, Some, None, vec_items, vec_len, count_by, Option, Vec, sym, refl, ap, ◌∙◌, subst, arith}
-use Rattle.std.proofs.lemmas.List.Sums.{count_by_more_yes}
-use Rattle.std.proofs.lemmas.Bool.{false≢true, le-ltb, lt-ltb, not-false, not-true, true≢false}
-use Rattle.std.specs.declared.alloc.Global.{Global}
-use Rattle.histories.specs.declared.entry.Reading.{Reading}
-use Rattle.reading_places.proofs.Held.{none_free, none_since, one_free}
+use Rattle.std.proofs.Common.{◌≡◌, rules, tests, true, false, is_some, is_ok, None, sym, ap, ◌∙◌, arith}
+use Rattle.std.proofs.lemmas.Bool.{le-ltb, lt-ltb}
+use Rattle.std.proofs.lemmas.Iterator.{IsFirst-from_position, YieldsList-from_slice}
+use Rattle.std.proofs.lemmas.Result.{err_from_is_err_and}
+use Rattle.reading_places.proofs.Held.{all_taken, none_since, one_free}
 use Rattle.reading_places.proofs.replacing.take_place.Goals as goal
 
-pub loop-i-preserved : goal.loop-i-preserved
-loop-i-preserved c =
-    let same = c.if-take_if_free.ensures.kept refl in
-    let here = not-false _ (sym c.if-take_if_free.ensures.free) in
-    let more : count_by is_some (take (c.loop-i.i + 1) (vec_items c.loop-i.places)) ≡ c.loop-i.i + 1 =
-    omega (arith, count_by_more_yes is_some (vec_items c.loop-i.places) c.loop-i.i None (omega (arith, c.loop-i.places.ok.0, ap (λ (v : Vec (Option Reading) Global). vec_len v) c.loop-i.invariant.0)) here, c.loop-i.invariant.1) in
-    (same ∙ c.loop-i.invariant.0, subst (λ (v : Vec (Option Reading) Global). count_by is_some (take (c.loop-i.i + 1) (vec_items v)) ≡ c.loop-i.i + 1) (sym same) more)
+pub returns-clause-free : goal.returns-clause-free
+returns-clause-free c =
+    let first = IsFirst-from_position _ _ _ (λ place. is_some place ≡ false) (λ place. is_some place ≡ true) (rw c.in_ok-free.ensures.ok_part at c.position.ensures.ran) (YieldsList-from_slice c.args.places.now cc) (λ x q k. search (rules, tests)) (λ x q k. search (rules, tests)) in
+    sym (lt-ltb _ _ (one_free c.args.places.now c.in_ok-free.free c.args.reading first.0 (none_since _ (first.1 None))))
 
-pub returns-then-take_if_free : goal.returns-then-take_if_free
-returns-then-take_if_free c =
-    let k = c.loop-i.i in
-    let same = c.loop-i.invariant.0 in
-    let within : k < length (vec_items c.args.places.now) = omega (arith, c.args.places.now.ok.0) in
-    let here = none_since _ (not-true _ (sym c.if-take_if_free.ensures.free)) in
-    let free = ap (λ (v : Vec (Option Reading) Global). get_or (vec_items v) k None) (sym same) ∙ here in
-    record {
-      free = sym (lt-ltb _ _ (omega (arith, one_free (vec_items c.args.places.now) k c.args.reading within free, c.args.places.now.ok.0)));
-      taken = λ _. (k, within, free, c.if-take_if_free.ensures.taken refl ∙ ap (λ (v : Vec (Option Reading) Global). set (vec_items v) k (Some c.args.reading)) same);
-      full = λ e. absurd (true≢false e);
-      len = c.if-take_if_free.ensures.len ∙ ap (λ (v : Vec (Option Reading) Global). vec_len v) same;
-    }
-
-pub returns : goal.returns
-returns c =
-    let taken = subst (λ (v : Vec (Option Reading) Global). count_by is_some (take c.loop-i.i (vec_items v)) ≡ c.loop-i.i) c.loop-i.invariant.0 c.loop-i.invariant.1 in
-    record {
-      free = sym (le-ltb _ _ (omega (arith, none_free (vec_items c.args.places.now) c.loop-i.i taken (omega (arith, c.args.places.now.ok.0)), c.args.places.now.ok.0)));
-      taken = λ e. absurd (false≢true e);
-      full = λ _. c.loop-i.invariant.0;
-      len = ap (λ (v : Vec (Option Reading) Global). vec_len v) c.loop-i.invariant.0;
-    }
+pub returns-in_err-free-clause-free : goal.returns-in_err-free-clause-free
+returns-in_err-free-clause-free c =
+    let refused = err_from_is_err_and c.from_residual.result c.from_residual.ensures.1 in
+    let none = IsFirst-from_position _ _ _ (λ place. is_some place ≡ false) (λ place. is_some place ≡ true) (rw c.in_err-free.ensures.ok_part at c.position.ensures.ran) (YieldsList-from_slice c.args.places.now cc) (λ x q k. search (rules, tests)) (λ x q k. search (rules, tests)) in
+    ap is_ok refused.1 ∙ sym (le-ltb _ _ (omega (arith, all_taken c.args.places.now (λ k below. none k None (omega arith) below))))

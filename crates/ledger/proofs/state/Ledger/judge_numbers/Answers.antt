@@ -12,13 +12,13 @@ returns-in_err-start c =
     let start_real = accepted_since _ _ _ _ c.in_ok-start_number.ensures in
     let end_real = accepted_since _ _ _ _ c.in_ok-end_number.ensures in
     let late = refused_since _ _ _ _ c.in_err-start.ensures in
-    let limited : energy_within c.args.energy ≡ true = search rules in
+    let limited : energy_within c.args.delivery.energy ≡ true = search rules in
     rw (p.1, p.2) record {
       fits = tt;
       law = λ s h f.
-          outside_refused s h c.args.point c.args.start c.args.end c.args.energy c.args.reading_type _
-          (ap (λ n. between 1 n c.args.point) (sym f.points) ∙ sym c.has_point.ensures ∙ c.if-not-has_point.false) limited start_real.0 end_real.0
-          (and_left _ _ (in_book_of 0 c.args.start _ _ f start_real.1 late.0)) late.1;
+          outside_refused s h c.args.delivery _
+          (ap (λ n. between 1 n c.args.delivery.point) (sym f.points) ∙ sym c.has_point.ensures ∙ c.if-not-has_point.false) limited start_real.0 end_real.0
+          (and_left _ _ (in_book_of 0 c.args.delivery.start _ _ f start_real.1 late.0)) late.1;
     }
 
 pub returns-in_err-end : goal.returns-in_err-end
@@ -27,11 +27,11 @@ returns-in_err-end c =
     let start_real = accepted_since _ _ _ _ c.in_ok-start_number.ensures in
     let end_real = accepted_since _ _ _ _ c.in_ok-end_number.ensures in
     let late = refused_since _ _ _ _ c.in_err-end.ensures in
-    let limited : energy_within c.args.energy ≡ true = search rules in
+    let limited : energy_within c.args.delivery.energy ≡ true = search rules in
     rw (p.1, p.2) record {
       fits = tt;
       law = λ s h f.
-          outside_refused s h c.args.point c.args.start c.args.end c.args.energy c.args.reading_type _
-          (ap (λ n. between 1 n c.args.point) (sym f.points) ∙ sym c.has_point.ensures ∙ c.if-not-has_point.false) limited start_real.0 end_real.0
-          (and_right _ _ (in_book_of 1 c.args.end _ _ f end_real.1 late.0)) late.1;
+          outside_refused s h c.args.delivery _
+          (ap (λ n. between 1 n c.args.delivery.point) (sym f.points) ∙ sym c.has_point.ensures ∙ c.if-not-has_point.false) limited start_real.0 end_real.0
+          (and_right _ _ (in_book_of 1 c.args.delivery.end _ _ f end_real.1 late.0)) late.1;
     }

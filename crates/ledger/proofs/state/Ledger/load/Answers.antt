@@ -8,10 +8,10 @@ returns-then-day-self c = record { bound = tt; law = λ s h f. no_load c.args.da
 pub returns : goal.returns
 returns c = record {
   bound = rw c.ok-2.ensures.value
-      (load_bounded c.in_ok-gate.gate.energy_in c.in_ok-gate.gate.energy_out c.in_ok-adjusted.adjusted c.net_load_of.result c.net_load_of.ensures);
+      (load_bounded c.in_ok-gate.gate.energy_in c.in_ok-gate.gate.energy_out c.in_ok-adjusted.adjusted c.net_system_load.result c.net_system_load.ensures);
   law = λ s h f.
       c.ok-2.ensures.value
       ∙ load_answered c.args.day c.in_ok-gate.gate c.interval_total-total.result c.in_ok-adjusted.adjusted c.adjust_for_unaccounted.result
-      c.net_load_of.result f c.if-day-self.false c.in_ok-gate.was c.interval_total-total.ensures.value c.interval_total-total.ensures.bound
-      c.adjust_for_unaccounted.ensures (sym c.ok.ensures.value ∙ c.in_ok-adjusted.was) c.net_load_of.ensures;
+      c.net_system_load.result f c.if-day-self.false c.in_ok-gate.was c.interval_total-total.ensures.value c.interval_total-total.ensures.bound
+      c.adjust_for_unaccounted.ensures (sym c.ok.ensures.value ∙ c.in_ok-adjusted.was) c.net_system_load.ensures;
 }

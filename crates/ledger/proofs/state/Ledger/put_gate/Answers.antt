@@ -6,4 +6,4 @@ use Rattle.ledger.proofs.state.Ledger.put_gate.Goals as goal
 pub invariant_of-self : goal.invariant_of-self
 invariant_of-self c =
     let l = c.args.self.now in
-    record { opened = l.opened; gates_within = rw c.write_gate.ensures (written_passes gate_within l.gates c.args.day (Some c.args.gate) c.requires.1 l.gates_within); intervals_long = l.intervals_long; intervals_within = l.intervals_within }
+    record { opened = l.opened; gates_within = written_passes gate_within l.gates c.args.day (Some c.args.gate) c.requires.1 l.gates_within; intervals_long = l.intervals_long; intervals_within = l.intervals_within }

@@ -8,7 +8,7 @@ invariant_of-self c =
     let l = c.args.self.now in record {
       opened = l.opened;
       gates_within = l.gates_within;
-      intervals_long = omega (arith, c.write_energy.ensures.len, l.intervals_long);
-      intervals_within = rw c.write_energy.ensures.items (front_passes interval_within (l.opening.days * 32) (vec_items l.intervals) (c.args.day * 32 + (c.args.meter - 1)) c.args.energy (omega arith) c.requires.1.1.1
-          l.intervals_within);
+      intervals_long = l.intervals_long;
+      intervals_within = front_passes interval_within (l.opening.days * 32) (vec_items l.intervals) (c.args.day * 32 + (c.args.meter - 1)) c.args.energy (omega (arith, l.intervals_long, l.intervals.ok.0, c.requires)) c.requires.1.1.1
+          l.intervals_within;
     }
