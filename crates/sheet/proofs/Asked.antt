@@ -1,7 +1,5 @@
 -- Answers to questions about a day, from what a sheet shows. Assumes nothing.
-use Rattle.std.proofs.Common.{◌≡◌, ℕ, ◌+◌, ◌-◌, ◌^◌, ◌≤◌, min, Bool, true, false, cond, not, ◌&&◌, map, get_or, is_some, Some, None, sum, count_by, Option, unwrap_or, sym, refl, ap, ◌∙◌, arith}
-use Rattle.std.proofs.lemmas.List.FromFn.{map-range_with_len_more}
-use Rattle.std.proofs.lemmas.List.Sums.{sum-map, sum_by_push}
+use Rattle.std.proofs.Common.{◌≡◌, ℕ, ◌+◌, ◌-◌, ◌^◌, ◌≤◌, min, Bool, cond, not, ◌&&◌, map, get_or, is_some, Some, None, sum, Option, unwrap_or, sym, refl, ap, ◌∙◌, arith}
 use Rattle.std.proofs.lemmas.Bool.{cond_both}
 use Rattle.std.specs.List.{range_with_len}
 use Rattle.std.specs.Option.{option_map}
@@ -18,43 +16,12 @@ use Rattle.sheet.specs.Cells.{cell}
 use Rattle.sheet.specs.Sums.{counted_sum}
 use Rattle.sheet.specs.Told.{ShowsDay, ShowsSupplied}
 use Rattle.sheet.specs.declared.day_figures.DayFigures.{DayFigures}
-use Rattle.sheet.specs.declared.part.Part.TheVariants.{Generated, OfRetailer, Supplied}
 use Rattle.sheet.specs.declared.state.Sheet.{Sheet}
 use Rattle.sheet.proofs.Generating.{supplied_shown}
 
 -- an estimated point has no estimate on a day
 abbrev pub lacks : Setting → History → ℕ → ℕ → Bool
 lacks s h d p = estimated h p d && not (is_some (estimate s h p d))
-
--- how many of the first n points are such
-unfoldable pub missing_first : Setting → History → ℕ → ℕ → ℕ
-missing_first s h d n = count_by (lacks s h d) (range_with_len 1 n)
-
-pub missing_none : (s : Setting) (h : History) (d : ℕ) → missing_first s h d 0 ≡ 0
-unfolding missing_first
-missing_none s h d = refl
-
-pub missing_all : (s : Setting) (h : History) (d : ℕ) → missing_first s h d s.points ≡ missing s h d
-unfolding missing_first
-missing_all s h d = refl
-
-pub missing_more : (s : Setting) (h : History) (d n : ℕ) → missing_first s h d (n + 1) ≡ missing_first s h d n + cond (lacks s h d (n + 1)) 1 0
-unfolding missing_first
-missing_more s h d n =
-    let each : ℕ → ℕ = λ p. cond (lacks s h d p) 1 0 in
-    sym (sum-map each (range_with_len 1 (n + 1))) ∙ ap sum (map-range_with_len_more each 1 n (n + 1) (omega arith)) ∙ sum_by_push (λ x. x) (map each (range_with_len 1 n)) (each (n + 1))
-    ∙ ap (λ k. k + each (n + 1)) (sum-map each (range_with_len 1 n))
-
--- one point more that has no estimate, or that has one or none to have
-pub missing_step : (s : Setting) (h : History) (d n count : ℕ) → lacks s h d (n + 1) ≡ true → count ≡ missing_first s h d n → count + 1 ≡ missing_first s h d (n + 1)
-missing_step s h d n count lacking so_far =
-    let one : ◌≡◌ {A = ℕ} (cond (lacks s h d (n + 1)) 1 0) 1 = ap (λ t. cond t 1 0) lacking in
-    omega (arith, missing_more s h d n, one)
-
-pub missing_skip : (s : Setting) (h : History) (d n count : ℕ) → lacks s h d (n + 1) ≡ false → count ≡ missing_first s h d n → count ≡ missing_first s h d (n + 1)
-missing_skip s h d n count has so_far =
-    let none : ◌≡◌ {A = ℕ} (cond (lacks s h d (n + 1)) 1 0) 0 = ap (λ t. cond t 1 0) has in
-    omega (arith, missing_more s h d n, none)
 
 -- the latest estimates keep within the estimator's limit
 estimate_limited : (s : Setting) (h : History) → Limited s → (d p x : ℕ) → estimate s h p d ≡ Some x → x ≤ 1000000
@@ -65,10 +32,11 @@ estimate_limited s h limited d p x = go (count_of h d)
     go (Some count) is = limited.1 count p (d + 1) x is
 
 -- what a day's generated figures come to, where a sheet shows the day
-generated_shown : (s : Setting) (h : History) (b : Sheet) (d : ℕ) → ShowsDay s h b d → counted_sum h Generated b d s.points ≡ generated_sum s h d
+generated_shown : (s : Setting) (h : History) (b : Sheet) (d : ℕ) → b.points ≡ s.points → ShowsDay s h b d → counted_sum (λ p. not (is_some (covering h p d))) b d b.points ≡ generated_sum s h d
 unfolding counted_sum
-generated_shown s h b d shows =
-    ap sum (map_over (λ p. cond (not (is_some (covering h p d))) (cell b p d) 0) (λ p. get_or (generated s h d) (p - 1) 0) 1 s.points
+generated_shown s h b d many shows =
+    ap (λ n. sum (map (λ p. cond (not (is_some (covering h p d))) (cell b p d) 0) (range_with_len 1 n))) many
+    ∙ ap sum (map_over (λ p. cond (not (is_some (covering h p d))) (cell b p d) 0) (λ p. get_or (generated s h d) (p - 1) 0) 1 s.points
     (λ p low high. go p low (omega arith) (covering h p d) refl))
     ∙ ap sum (row_from_one (generated s h d) s.points (length_generated s h d))
   where
@@ -79,10 +47,11 @@ generated_shown s h b d shows =
         ap (λ o. cond (not (is_some o)) (cell b p d) 0) e ∙ sym (generated_none s h p d low (covered_not_estimated h p d (ap is_some e)))
 
 -- and a retailer's
-retailer_shown : (s : Setting) (h : History) (b : Sheet) (d k : ℕ) → ShowsDay s h b d → counted_sum h (OfRetailer k) b d s.points ≡ retailer_sum s h k d
+retailer_shown : (s : Setting) (h : History) (b : Sheet) (d k : ℕ) → b.points ≡ s.points → ShowsDay s h b d → counted_sum (λ p. belongs (enrolment_of h p) k) b d b.points ≡ retailer_sum s h k d
 unfolding counted_sum
-retailer_shown s h b d k shows =
-    ap sum (map_over (λ p. cond (belongs (enrolment_of h p) k) (cell b p d) 0) (λ p. cond (belongs (enrolment_of h p) k) (figure s h p d) 0) 1 s.points
+retailer_shown s h b d k many shows =
+    ap (λ n. sum (map (λ p. cond (belongs (enrolment_of h p) k) (cell b p d) 0) (range_with_len 1 n))) many
+    ∙ ap sum (map_over (λ p. cond (belongs (enrolment_of h p) k) (cell b p d) 0) (λ p. cond (belongs (enrolment_of h p) k) (figure s h p d) 0) 1 s.points
     (λ p low high. ap (λ x. cond (belongs (enrolment_of h p) k) x 0) (shows p low (omega arith))))
 
 module _ (s : Setting) (h : History) (lawful : Lawful s h) (limited : Limited s) (few : s.points ≤ 256) (d : ℕ) where
@@ -100,21 +69,21 @@ module _ (s : Setting) (h : History) (lawful : Lawful s h) (limited : Limited s)
             (λ _. figure_bounded s h lawful d (estimate_limited s h limited d) p) (λ _. omega arith)),
       )
 
-  pub retailer_told : (b : Sheet) → ShowsDay s h b d → (k r : ℕ) → r ≡ min (counted_sum h (OfRetailer k) b d s.points) (2 ^ 64 - 1) → r ≡ retailer_sum s h k d
-  retailer_told b shows k r is = omega (arith, retailer_shown s h b d k shows, retailer_limited k)
+  pub retailer_told : (b : Sheet) → b.points ≡ s.points → ShowsDay s h b d → (k r : ℕ) → r ≡ min (counted_sum (λ p. belongs (enrolment_of h p) k) b d b.points) (2 ^ 64 - 1) → r ≡ retailer_sum s h k d
+  retailer_told b many shows k r is = omega (arith, retailer_shown s h b d k many shows, retailer_limited k)
 
   -- the account of a day with a load, from the sums that a sheet shows
-  pub account_told : (b : Sheet) → ShowsDay s h b d → ShowsSupplied s h b d → (n a g m : ℕ) → load s h d ≡ Some n
-      → a ≡ min (counted_sum h Supplied b d s.points) (2 ^ 64 - 1) → g ≡ min (counted_sum h Generated b d s.points) (2 ^ 64 - 1) → m ≡ missing s h d
+  pub account_told : (b : Sheet) → b.points ≡ s.points → ShowsDay s h b d → ShowsSupplied s h b d → (n a g m : ℕ) → load s h d ≡ Some n
+      → a ≡ min (counted_sum (λ p. is_some (covering h p d)) b d b.points) (2 ^ 64 - 1) → g ≡ min (counted_sum (λ p. not (is_some (covering h p d))) b d b.points) (2 ^ 64 - 1) → m ≡ missing s h d
       → (f : DayFigures) → f ≡ record { load = n; supplied = a; generated = g; remainder = n - min (a + g) (2 ^ 64 - 1); excess = a - n; missing = m } → Some f ≡ day_account s h d
-  account_told b shows shows_supplied n a g m loaded a_is g_is m_is f f_is =
+  account_told b many shows shows_supplied n a g m loaded a_is g_is m_is f f_is =
       ap Some f_is ∙ (λ i. Some (record { load = n; supplied = supplied i; generated = made i; remainder = left i; excess = supplied i - n; missing = m_is i })) ∙ ap (option_map (account s h d)) (sym loaded)
     where
       supplied : a ≡ supplied_sum s h d
-      supplied = omega (arith, supplied_shown s h b d shows_supplied, two_kinds s h d, figures_limited)
+      supplied = omega (arith, supplied_shown s h b d many shows_supplied, two_kinds s h d, figures_limited)
 
       made : g ≡ generated_sum s h d
-      made = omega (arith, generated_shown s h b d shows, two_kinds s h d, figures_limited)
+      made = omega (arith, generated_shown s h b d many shows, two_kinds s h d, figures_limited)
 
       left : n - min (a + g) (2 ^ 64 - 1) ≡ n - figures_sum s h d
       left = omega (arith, supplied, made, two_kinds s h d, figures_limited)

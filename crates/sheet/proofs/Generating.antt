@@ -1,15 +1,15 @@
 -- The generated figures of a day, from what a sheet shows. Assumes nothing.
-use Rattle.std.proofs.Common.{◌≡◌, ℕ, ◌+◌, ◌-◌, ◌<◌, ◌≤◌, true, false, cond, List, get_or, is_some, Some, None, sum, Option, unwrap_or, sym, refl, ap, ◌∙◌, ⊎_elim, arith}
+use Rattle.std.proofs.Common.{◌≡◌, ℕ, ◌+◌, ◌-◌, ◌<◌, ◌≤◌, true, false, cond, List, map, get_or, is_some, Some, None, sum, Option, unwrap_or, sym, refl, ap, ◌∙◌, ⊎_elim, arith}
 use Rattle.std.proofs.lemmas.Bool.{cases_eq}
+use Rattle.std.specs.List.{range_with_len}
 use Rattle.std.specs.Option.{option_map}
 use Rattle.figure_laws.proofs.Over.{map_over}
-use Rattle.histories.specs.Figures.{generated, share_on, supplied, supplied_sum}
+use Rattle.histories.specs.Figures.{share_on, supplied, supplied_sum}
 use Rattle.histories.specs.History.{History, Setting, covering}
 use Rattle.histories.specs.declared.entry.Reading.{Reading}
 use Rattle.sheet.specs.Cells.{cell}
 use Rattle.sheet.specs.Sums.{counted_sum}
-use Rattle.sheet.specs.Told.{ShowsDay, ShowsSupplied}
-use Rattle.sheet.specs.declared.part.Part.TheVariants.{Supplied}
+use Rattle.sheet.specs.Told.{ShowsSupplied}
 use Rattle.sheet.specs.declared.state.Sheet.{Sheet}
 use Rattle.sheet.proofs.Writing.{Written, written_here, written_other}
 
@@ -17,9 +17,6 @@ use Rattle.sheet.proofs.Writing.{Written, written_here, written_other}
 pub record Shown (h : History) (n d : ℕ) (fs : List ℕ) (i : ℕ) (old new : Sheet) : Type 0 where
   pub done : (p : ℕ) → 1 ≤ p → p ≤ n → p ≤ i → cell new p d ≡ cond (is_some (covering h p d)) (cell old p d) (get_or fs (p - 1) 0)
   pub ahead : (p : ℕ) → 1 ≤ p → p ≤ n → i < p → cell new p d ≡ cell old p d
-
-pub shown_none : (h : History) (n d : ℕ) (fs : List ℕ) (b : Sheet) → Shown h n d fs 0 b b
-shown_none h n d fs b = record { done = λ p low high none. absurd (omega arith); ahead = λ p low high next. refl }
 
 module _ {h : History} {n d i : ℕ} {fs : List ℕ} {base old new : Sheet} (so_far : Shown h n d fs i base old) where
   -- a covered point keeps its figure
@@ -53,24 +50,14 @@ module _ {h : History} {n d i : ℕ} {fs : List ℕ} {base old new : Sheet} (so_
       }
 
 -- what a day's supplied figures come to, where a sheet shows them
-pub supplied_shown : (s : Setting) (h : History) (b : Sheet) (d : ℕ) → ShowsSupplied s h b d → counted_sum h Supplied b d s.points ≡ supplied_sum s h d
+pub supplied_shown : (s : Setting) (h : History) (b : Sheet) (d : ℕ) → b.points ≡ s.points → ShowsSupplied s h b d → counted_sum (λ p. is_some (covering h p d)) b d b.points ≡ supplied_sum s h d
 unfolding counted_sum
-supplied_shown s h b d shows =
-    ap sum (map_over (λ p. cond (is_some (covering h p d)) (cell b p d) 0) (λ p. unwrap_or (supplied s h p d) 0) 1 s.points
+supplied_shown s h b d many shows =
+    ap (λ n. sum (map (λ p. cond (is_some (covering h p d)) (cell b p d) 0) (range_with_len 1 n))) many
+    ∙ ap sum (map_over (λ p. cond (is_some (covering h p d)) (cell b p d) 0) (λ p. unwrap_or (supplied s h p d) 0) 1 s.points
     (λ p low high. go p low (omega arith) (covering h p d) refl))
   where
     go : (p : ℕ) → 1 ≤ p → p ≤ s.points → (o : Option Reading) → covering h p d ≡ o → cond (is_some (covering h p d)) (cell b p d) 0 ≡ unwrap_or (option_map (share_on s h d) (covering h p d)) 0
     go p low high None e = rw e refl
     go p low high (Some r) e =
         ap (λ o. cond (is_some o) (cell b p d) 0) e ∙ shows p (share_on s h d r) low high (ap (option_map (share_on s h d)) e) ∙ ap (λ o. unwrap_or (option_map (share_on s h d) o) 0) (sym e)
-
--- a sheet that shows the supplied figures of a day beside the generated ones shows the day
-pub day_shown : (s : Setting) (h : History) (d : ℕ) (fs : List ℕ) (old new : Sheet) → ShowsSupplied s h old d → fs ≡ generated s h d
-    → ((p : ℕ) → 1 ≤ p → p ≤ s.points → cell new p d ≡ cond (is_some (covering h p d)) (cell old p d) (get_or fs (p - 1) 0)) → ShowsDay s h new d
-day_shown s h d fs old new shows is each p low high = each p low high ∙ go (covering h p d) refl
-  where
-    go : (o : Option Reading) → covering h p d ≡ o → cond (is_some (covering h p d)) (cell old p d) (get_or fs (p - 1) 0) ≡ unwrap_or (option_map (share_on s h d) (covering h p d)) (get_or (generated s h d) (p - 1) 0)
-    go None e = ap (λ o. cond (is_some o) (cell old p d) (get_or fs (p - 1) 0)) e ∙ ap (λ l. get_or l (p - 1) 0) is ∙ ap (λ o. unwrap_or (option_map (share_on s h d) o) (get_or (generated s h d) (p - 1) 0)) (sym e)
-    go (Some r) e =
-        ap (λ o. cond (is_some o) (cell old p d) (get_or fs (p - 1) 0)) e ∙ shows p (share_on s h d r) low high (ap (option_map (share_on s h d)) e)
-        ∙ ap (λ o. unwrap_or (option_map (share_on s h d) o) (get_or (generated s h d) (p - 1) 0)) (sym e)

@@ -27,22 +27,6 @@ pub record Spanned (day from to : ℕ) (old now : Sheet) : Type 0 where
   pub last : to ≤ old.days
   pub only : OnlyDays from to old now
 
-pub spanned_none : (day : ℕ) (b : Sheet) → day < b.days → Spanned day day (day + 1) b b
-spanned_none day b within = record {
-  low = omega arith;
-  high = omega arith;
-  last = omega arith;
-  only = record {
-    days = refl;
-    points = refl;
-    loads = refl;
-    covered = refl;
-    len = refl;
-    before = λ k _. refl;
-    after = λ k _. refl;
-  };
-}
-
 -- changes of some days and of others are changes between the first and the last of them
 only_both : {old b new : Sheet} (from to start end : ℕ) → OnlyDays from to old b → OnlyDays start end b new → OnlyDays (min from start) (max to end) old new
 only_both {old} {b} {new} from to start end first second =
@@ -99,12 +83,6 @@ pub record SharedTo (s : Setting) (h : History) (places : List (Option Reading))
   pub shared : (k : ℕ) (r : Reading) → k < i → get_or places k None ≡ Some r → covers r r.point day ≡ true
       → (from ≤ r.start) × (r.end ≤ to) × ((d : ℕ) → covers r r.point d ≡ true → cell now r.point d ≡ share_on s h d r)
   pub kept : (p d : ℕ) (r : Reading) → covering h p d ≡ Some r → covers r r.point day ≡ false → cell now p d ≡ cell old p d
-
-pub shared_none : (s : Setting) (h : History) (places : List (Option Reading)) (day : ℕ) (b : Sheet) → SharedTo s h places 0 day day (day + 1) b b
-shared_none s h places day b = record {
-  shared = λ k r less. absurd (omega arith);
-  kept = λ p d r _ _. refl;
-}
 
 -- what a place tells of the reading found in it
 module _ (b : Sheet) (day : ℕ) where

@@ -10,3 +10,4 @@ pub mod Scaled
 pub mod Spreading
 pub mod Stretches
 pub mod Writing
+pub mod Zipped

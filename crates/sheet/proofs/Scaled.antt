@@ -1,9 +1,12 @@
 -- Rows of estimated points, and what scaling makes of them. Assumes nothing.
-use Rattle.std.proofs.Common.{◌≡◌, ℕ, ◌+◌, ◌-◌, ◌*◌, ◌<◌, ◌≤◌, true, false, cond, T, leb, List, length, get_or, set, IfSome, Some, None, sum, Option, unwrap_or, sym, refl, ap, ◌∙◌, subst, ⊎_elim, mul-le-mul, arith, le→leb, leb→le}
+use Rattle.std.proofs.Common.{◌≡◌, ℕ, ◌+◌, ◌-◌, ◌*◌, ◌<◌, ◌≤◌, Bool, true, cond, T, leb, List, length, get_or, set, IfSome, Some, None, Ok, Err, Result, sum, Option, unwrap_or, sym, refl, ap, ◌∙◌, subst, ⊎_elim, mul-le-mul, arith, le→leb}
 use Rattle.std.proofs.lemmas.List.{get_or-set_other, get_or-set_same, length-map, map-set}
 use Rattle.std.proofs.lemmas.Bool.{and_from, cases_eq, le-leb, lt-ltb}
+use Rattle.std.specs.Result.{IsOk}
 use Rattle.histories.specs.Figures.{exceeded}
 use Rattle.loads.specs.Loads.{largest_gate}
+use Rattle.refusals.specs.Answers.{AcceptedWhen}
+use Rattle.refusals.specs.declared.refusal.Refusal.{Refusal}
 use Rattle.sharing.specs.Kinds.{with_figure}
 use Rattle.sharing.specs.Laws.{length_shares}
 use Rattle.sharing.specs.Limits.{largest_estimate, largest_product}
@@ -22,6 +25,18 @@ pub shareable : (c : ℕ) (rows : List EstimatedPoint) → c ≤ 1000000000 → 
 shareable c rows small few some =
     and_from _ _ (load_shareable c (length (estimates_of rows)) small (rw length-map few)) (lt-ltb 0 (sum (estimates_of rows)) some)
 
+-- what a load leaves beside supplied energy can be shared over such estimates
+pub left_shareable : (load : Option ℕ) (n supplied left total : ℕ) (rows : List EstimatedPoint) → IfSome load (λ x. x ≤ 1000000000) → load ≡ Some n → left ≡ n - supplied
+    → length rows ≤ 256 → total ≡ sum (estimates_of rows) → 0 < total → can_share largest_estimate left (estimates_of rows) ≡ true
+left_shareable load n supplied left total rows within is left_is few total_is some =
+    let small : n ≤ 1000000000 = subst (λ (o : Option ℕ). IfSome o (λ x. x ≤ 1000000000)) is within in
+    shareable left rows (omega (arith, small, left_is)) few (omega (arith, total_is, some))
+
+-- what is accepted by a test that passes is no refusal
+pub accepted_ok : {X : Type 0} (r : Result X Refusal) (ok : Bool) (n : ℕ) → ok ≡ true → AcceptedWhen r ok n → IsOk r
+accepted_ok (Ok x) ok n passes answer = refl
+accepted_ok (Err e) ok n passes answer = absurd (rw passes at answer)
+
 -- rows that took their shares show them
 pub shared_figures : (c : ℕ) (rows new : List EstimatedPoint) → can_share largest_estimate c (estimates_of rows) ≡ true
     → new ≡ cond (can_share largest_estimate c (estimates_of rows)) (handed with_figure rows (shares c (estimates_of rows))) rows → figures_of new ≡ shares c (estimates_of rows)
@@ -35,14 +50,6 @@ exceeds a g n above some = and_from _ _ (lt-ltb n (a + g) above) (lt-ltb 0 g som
 
 pub scaled_by : (load : Option ℕ) (supplied : ℕ) (es figures : List ℕ) → exceeded supplied (sum es) load ≡ true → figures ≡ shares (unwrap_or load 0 - supplied) es → figures ≡ scaled load supplied es
 scaled_by load supplied es figures exceeds is = is ∙ ap (λ t. cond t (shares (unwrap_or load 0 - supplied) es) es) (sym exceeds)
-
-pub kept_by : (load : Option ℕ) (supplied : ℕ) (es figures : List ℕ) → exceeded supplied (sum es) load ≡ false → figures ≡ es → figures ≡ scaled load supplied es
-kept_by load supplied es figures within is = is ∙ ap (λ t. cond t (shares (unwrap_or load 0 - supplied) es) es) (sym within)
-
--- a figure that is at most its limit where there is one
-pub bounded_found : (o : Option ℕ) → ((x : ℕ) → o ≡ Some x → x ≤ 1000000) → IfSome o (λ x. x ≤ 1000000)
-bounded_found None most = tt
-bounded_found (Some x) most = most x refl
 
 -- one row more is written: what holds of each row written so far, and of the new one, holds of each
 pub written_more : (rows : List EstimatedPoint) (i : ℕ) (new : EstimatedPoint) → i < length rows → (P : ℕ → ℕ → ℕ → Type 0)
@@ -60,11 +67,6 @@ written_more rows i new inside P before here k below =
     subst (λ f. P f (get_or (set (estimates_of rows) i new.estimate) k 0) k) (sym (get_or-set_other (figures_of rows) i k new.figure 0 other))
     (subst (λ e. P (get_or (figures_of rows) k 0) e k) (sym (get_or-set_other (estimates_of rows) i k new.estimate 0 other)) (before k (omega arith))))
     (cases_eq k i)))
-
--- a load within its limit
-pub load_found : (o : Option ℕ) → T (load_within o) → IfSome o (λ n. n ≤ 1000000000)
-load_found None passes = tt
-load_found (Some n) passes = leb→le n 1000000000 passes
 
 pub load_passes : (o : Option ℕ) → IfSome o (λ n. n ≤ largest_gate) → T (load_within o)
 load_passes None small = tt

@@ -1,13 +1,10 @@
 -- Days by their weights, and shares shown day by day. Assumes nothing.
-use Rattle.std.proofs.Common.{◌≡◌, ℕ, ◌+◌, ◌-◌, ◌*◌, ◌<◌, ◌≤◌, true, false, cond, ◌&&◌, T, eqb, ltb, leb, List, map, length, get_or, set, Some, None, vec_items, vec_len, Option, unwrap_or, sym, refl, ap, ◌∙◌, ⊎_elim, arith, leb→le}
+use Rattle.std.proofs.Common.{◌≡◌, ℕ, ◌+◌, ◌-◌, ◌*◌, ◌<◌, ◌≤◌, true, cond, ◌&&◌, eqb, ltb, leb, List, map, length, get_or, set, vec_items, vec_len, sym, refl, ap, ◌∙◌, ⊎_elim, arith}
 use Rattle.std.proofs.lemmas.List.FromFn.{get_or-map-range_with_len, length-map-range_with_len}
 use Rattle.std.proofs.lemmas.List.Edits.{fill_by_more}
 use Rattle.std.proofs.lemmas.List.{ext_get_or, get_or-set_other, get_or-set_same, length-map, length-set, map-set}
-use Rattle.std.proofs.lemmas.Bool.{and_from, cases_eq, cases_lt, cond_both, cond-false, cond-true, eq-eqb, le-leb, le-ltb, lt-ltb, ne_eqb}
-use Rattle.std.proofs.lemmas.Bool.Decides.{nat_tests}
-use Rattle.std.specs.List.{range_with_len, list_all}
-use Rattle.estimators.proofs.Tables.{read_passes}
-use Rattle.loads.specs.Loads.{weight}
+use Rattle.std.proofs.lemmas.Bool.{and_from, cases_eq, cases_lt, cond-true, eq-eqb, le-leb, le-ltb, lt-ltb, ne_eqb}
+use Rattle.std.specs.List.{range_with_len}
 use Rattle.sharing.specs.Kinds.{with_share}
 use Rattle.sharing.specs.Laws.{length_shares}
 use Rattle.sharing.specs.Limits.{largest_day_weight}
@@ -19,20 +16,8 @@ use Rattle.histories.specs.History.{History, Setting, covers}
 use Rattle.histories.specs.declared.entry.Reading.{Reading}
 use Rattle.sheet_laws.proofs.Rows.{cell_after, cell_apart, cell_before, handed_shares}
 use Rattle.sheet.specs.Cells.{OnlyDays, cell}
-use Rattle.sheet.specs.Limits.{load_within}
 use Rattle.sheet.specs.Shares.{SharesShown, shares_of, weights_of}
 use Rattle.sheet.specs.declared.state.Sheet.{Sheet}
-
-load_light : (o : Option ℕ) → T (load_within o) → unwrap_or o 0 ≤ 1000000000
-load_light None t = omega arith
-load_light (Some n) t = leb→le n 1000000000 t
-
--- no day of a sheet weighs more than the largest gate energy
-pub weighs_light : (loads : List (Option ℕ)) (i : ℕ) → T (list_all load_within loads) → weight (unwrap_or (get_or loads i None) 0) ≤ 1000000000
-weighs_light loads i within =
-    let n = unwrap_or (get_or loads i None) 0 in
-    let light : n ≤ 1000000000 = load_light (get_or loads i None) (read_passes load_within loads i None tt within) in
-    cond_both (eqb n 0) 1 n (λ w. w ≤ 1000000000) (λ _. omega arith) (λ _. light)
 
 -- one more day weighed, and all of them
 pub weighed_more : (rows : List ReadingDay) (i : ℕ) (row : ReadingDay) (f : ℕ → ℕ) → i < length rows → ((k : ℕ) → k < i → get_or (weights_of rows) k 0 ≡ f k) → row.weight ≡ f i → (k : ℕ) → k < i + 1 → get_or (weights_of (set rows i row)) k 0 ≡ f k
@@ -60,24 +45,6 @@ same_test point p start d i other =
     ap (λ t. eqb point p && (leb start d && t)) same)
     (λ (not : point ≡ p → ⊥). ap (λ t. t && (leb start d && ltb d (start + i))) (ne_eqb point p not) ∙ sym (ap (λ t. t && (leb start d && ltb d (start + (i + 1)))) (ne_eqb point p not)))
     (cases_eq point p)
-
--- no share is shown yet
-pub shown_none : (b : Sheet) (start : ℕ) → OnlyDays start (start + 0) b b
-shown_none b start = record {
-  days = refl;
-  points = refl;
-  loads = refl;
-  covered = refl;
-  len = refl;
-  before = λ k _. refl;
-  after = λ k _. refl;
-}
-
-none_so_far : (point p start d : ℕ) → (eqb point p && (leb start d && ltb d (start + 0))) ≡ false
-none_so_far point p start d = grind (arith, nat_tests)
-
-pub cells_none : (b : Sheet) (point start : ℕ) (ss : List ℕ) (p d : ℕ) → cell b p d ≡ cond (eqb point p && (leb start d && ltb d (start + 0))) (get_or ss (d - start) 0) (cell b p d)
-cells_none b point start ss p d = sym (cond-false _ _ _ (none_so_far point p start d))
 
 -- one more share shown
 module _ (old b new : Sheet) (point start i share : ℕ) (only : OnlyDays start (start + i) old b) (low : 1 ≤ point) (high : point ≤ old.points)

@@ -25,17 +25,6 @@ module _ {from to : ℕ} {old new : Sheet} (only : OnlyDays from to old new) whe
       same_drop (old.days * old.points) (vec_items new.figures) (vec_items old.figures) (omega (arith, only.len, new.figures.ok.0, old.figures.ok.0))
       (λ k above. only.after k (omega (arith, mul-le-mul_right old.points inside)))
 
-  pub only_wider : (a b : ℕ) → a ≤ from → to ≤ b → OnlyDays a b old new
-  only_wider a b low high = record {
-    days = only.days;
-    points = only.points;
-    loads = only.loads;
-    covered = only.covered;
-    len = only.len;
-    before = λ k below. only.before k (omega (arith, below, mul-le-mul_right old.points low));
-    after = λ k above. only.after k (omega (arith, above, mul-le-mul_right old.points high));
-  }
-
   -- a day that shows its figures still does
   pub day_stands : (s : Setting) (h : History) (d : ℕ) → old.points ≡ s.points → Outside from to d → ShowsDay s h old d → ShowsDay s h new d
   day_stands s h d many outside shows p low high = cell_stands p d low (omega arith) outside ∙ shows p low high

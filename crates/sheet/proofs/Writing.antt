@@ -1,5 +1,5 @@
 -- One figure of a sheet written anew. Assumes nothing.
-use Rattle.std.proofs.Common.{◌≡◌, ℕ, ◌+◌, ◌-◌, ◌*◌, ◌<◌, ◌≤◌, length, get_or, set, vec_items, vec_len, refl, ap, ◌∙◌, subst, arith}
+use Rattle.std.proofs.Common.{◌≡◌, ℕ, ◌+◌, ◌-◌, ◌*◌, ◌<◌, ◌≤◌, length, get_or, set, vec_items, vec_len, ap, ◌∙◌, subst, arith}
 use Rattle.std.proofs.lemmas.List.{get_or-set_other, get_or-set_same, length-set}
 use Rattle.sheet_laws.proofs.Rows.{cell_after, cell_apart, cell_before}
 use Rattle.sheet.specs.Cells.{OnlyDays, cell}
@@ -13,9 +13,6 @@ pub record Written (p d x : ℕ) (old new : Sheet) : Type 0 where
   pub covered : new.covered_to ≡ old.covered_to
   pub figures : vec_items new.figures ≡ set (vec_items old.figures) (d * old.points + (p - 1)) x
   pub within : d * old.points + (p - 1) < vec_len old.figures
-
-pub only_none : (from to : ℕ) (b : Sheet) → OnlyDays from to b b
-only_none from to b = record { days = refl; points = refl; loads = refl; covered = refl; len = refl; before = λ k h. refl; after = λ k h. refl }
 
 module _ {p d x : ℕ} {old new : Sheet} (w : Written p d x old new) where
   pub written_here : cell new p d ≡ x

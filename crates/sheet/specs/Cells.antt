@@ -2,6 +2,16 @@
 use Rattle.std.specs.Prelude.{◌≡◌, ℕ, ◌+◌, ◌-◌, ◌*◌, ◌<◌, ◌≤◌, vec_items, vec_len, slice_index}
 use Rattle.sheet.specs.declared.state.Sheet.{Sheet}
 
+-- a sheet has a point, a day, and a cell for a point and day
+abbrev pub HasPoint : Sheet → ℕ → Type 0
+HasPoint b p = (1 ≤ p) × (p ≤ b.points)
+
+abbrev pub HasDay : Sheet → ℕ → Type 0
+HasDay b d = d < b.days
+
+abbrev pub HasCell : Sheet → ℕ → ℕ → Type 0
+HasCell b p d = HasPoint b p × HasDay b d
+
 -- the figure that a sheet shows of a point and day
 abbrev pub cell : Sheet → ℕ → ℕ → ℕ
 cell b p d = slice_index (vec_items b.figures) (d * b.points + (p - 1))

@@ -1,15 +1,13 @@
 -- What a sheet knows of a history, and what it shows of it.
-use Rattle.std.specs.Prelude.{◌≡◌, ℕ, ◌+◌, ◌*◌, ◌<◌, ◌≤◌, Bool, cond, not, List, drop, is_some, Some, None, vec_items, slice_index_or}
+use Rattle.std.specs.Prelude.{◌≡◌, ℕ, ◌+◌, ◌*◌, ◌<◌, ◌≤◌, cond, List, drop, is_some, Some, None, vec_items, slice_index_or}
 use Rattle.estimators.specs.Meaning.{Meaning}
 use Rattle.histories.specs.Calls.{Lawful}
-use Rattle.histories.specs.Figures.{active, belongs, estimate, figure, load, supplied}
-use Rattle.histories.specs.History.{History, Setting, covering, enrolment_of}
+use Rattle.histories.specs.Figures.{active, estimate, figure, load, supplied}
+use Rattle.histories.specs.History.{History, Setting, covering}
 use Rattle.ledger.specs.Told.{Follows}
 use Rattle.sheet_laws.specs.CoveredTo.{CoveredTo}
 use Rattle.ledger.specs.declared.state.Ledger.{Ledger}
 use Rattle.sheet.specs.Cells.{cell}
-use Rattle.sheet.specs.declared.part.Part.{Part}
-use Rattle.sheet.specs.declared.part.Part.TheVariants.{Supplied, Generated, OfRetailer}
 use Rattle.sheet.specs.declared.standing.Standing.{Standing}
 use Rattle.sheet.specs.declared.standing.Standing.TheVariants.{Covered, Estimated, Absent}
 use Rattle.sheet.specs.declared.state.Sheet.{Sheet}
@@ -17,12 +15,6 @@ use Rattle.sheet.specs.declared.state.Sheet.{Sheet}
 -- how a point stands on a day: supplied where a reading covers it, else estimated from its start day on
 abbrev pub standing_of : History → ℕ → ℕ → Standing
 standing_of h p d = cond (is_some (covering h p d)) Covered (cond (active h p d) Estimated Absent)
-
--- the figures of a day that belong to a part: those of covered points, those of all others, or those of a retailer's points
-abbrev pub counted : History → Part → ℕ → ℕ → Bool
-counted h Supplied p d = is_some (covering h p d)
-counted h Generated p d = not (is_some (covering h p d))
-counted h (OfRetailer k) p d = belongs (enrolment_of h p) k
 
 -- ledger and sheet have been told a history: the ledger follows it, and the sheet knows the load of each day and
 -- up to which day each point is covered

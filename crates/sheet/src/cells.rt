@@ -1,12 +1,13 @@
-ghost use Rattle.std.specs.Prelude.{◌≡◌, ◌+◌, ◌-◌, ◌*◌, ◌<◌, ◌≤◌, vec_len, slice_set};
-ghost use Rattle.sheet.specs.Cells.{cell};
+ghost use Rattle.std.specs.Prelude.{◌≡◌, ◌+◌, ◌-◌, ◌*◌, ◌<◌, vec_len, slice_set};
+ghost use Rattle.sheet.specs.Cells.{HasCell, cell};
 
 use super::state::Sheet;
 
+// A point and a day stay two numbers: the estimator's trait and every definition take them so.
 impl Sheet {
     // The place of a point and day in the list of figures.
     pub(crate) fn place_of(&self, point: u32, day: u32) -> usize
-        requires { (1 ≤ point) × ((point ≤ self.now.points) × (day < self.now.days)) }
+        requires { HasCell self.now point day }
         ensures value { result ≡ day * self.now.points + (point - 1) }
         ensures within { result < vec_len self.now.figures }
     {
@@ -15,7 +16,7 @@ impl Sheet {
 
     // The figure of a point and day of the sheet.
     pub(crate) fn shown(&self, point: u32, day: u32) -> u64
-        requires { (1 ≤ point) × ((point ≤ self.now.points) × (day < self.now.days)) }
+        requires { HasCell self.now point day }
         ensures { result ≡ cell self.now point day }
     {
         self.figures[self.place_of(point, day)]
@@ -23,7 +24,7 @@ impl Sheet {
 
     // Shows another figure of a point and day of the sheet.
     pub(crate) fn show(&mut self, point: u32, day: u32, figure: u64)
-        requires { (1 ≤ point) × ((point ≤ self.old.points) × (day < self.old.days)) }
+        requires { HasCell self.old point day }
         ensures days { self.new.days ≡ self.old.days }
         ensures points { self.new.points ≡ self.old.points }
         ensures loads { self.new.loads ≡ self.old.loads }

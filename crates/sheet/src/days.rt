@@ -3,36 +3,21 @@ ghost use Rattle.histories.specs.History.{History, Setting};
 ghost use Rattle.sheet.specs.Cells.{OnlyDays};
 ghost use Rattle.sheet.specs.Told.{Estimates, ShowsDay, ShowsSupplied, Told};
 
+use super::sources::Sources;
 use super::span::Span;
 use super::state::Sheet;
 use estimators::Estimator;
-use ledger::Ledger;
 
 impl Sheet {
-    // Works out the generated figures of the days from one day up to another anew.
-    pub(crate) fn settle_days<E: Estimator>(
-        &mut self,
-        ledger: &Ledger,
-        estimator: &E,
-        from: u32,
-        to: u32,
-    )
-        requires { from ≤ to }
-        ensures stands { OnlyDays from to self.old self.new }
-        ensures law { (s : Setting) (h : History) → Told s h ledger.now self.old → Estimates s h (E.Estimator.meaning estimator.now) → to ≤ s.days → ((d : ℕ) → from ≤ d → d < to → ShowsSupplied s h self.old d) → (d : ℕ) → from ≤ d → d < to → ShowsDay s h self.new d }
-    {
-        for day in from..to {
-            self.settle_day(ledger, estimator, day);
-        }
-    }
-
     // Works out the generated figures of the days of a span anew.
-    pub(crate) fn settle_span<E: Estimator>(&mut self, ledger: &Ledger, estimator: &E, span: Span)
+    pub(crate) fn settle_days<E: Estimator>(&mut self, sources: &Sources<'_, E>, span: Span)
         requires { span.from ≤ span.to }
         ensures stands { OnlyDays span.from span.to self.old self.new }
-        ensures law { (s : Setting) (h : History) → Told s h ledger.now self.old → Estimates s h (E.Estimator.meaning estimator.now) → span.to ≤ s.days → ((d : ℕ) → span.from ≤ d → d < span.to → ShowsSupplied s h self.old d) → (d : ℕ) → span.from ≤ d → d < span.to → ShowsDay s h self.new d }
+        ensures law { (s : Setting) (h : History) → Told s h sources.now.ledger.now self.old → Estimates s h (E.Estimator.meaning sources.now.estimator.now) → span.to ≤ s.days → ((d : ℕ) → span.from ≤ d → d < span.to → ShowsSupplied s h self.old d) → (d : ℕ) → span.from ≤ d → d < span.to → ShowsDay s h self.new d }
     {
-        self.settle_days(ledger, estimator, span.from, span.to);
+        for day in span.from..span.to {
+            self.settle_day(sources, day);
+        }
     }
 
     // The days of the sheet from one day on.

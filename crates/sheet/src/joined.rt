@@ -1,7 +1,7 @@
 ghost use Rattle.std.specs.Prelude.{◌≡◌, ◌<◌, ◌≤◌, min, max, IfSome, if◌then◌else◌, Option};
 ghost use Rattle.histories.specs.History.{History, Setting, covers};
 ghost use Rattle.histories.specs.declared.entry.Reading.{Reading};
-ghost use Rattle.sheet.specs.Cells.{OnlyDays};
+ghost use Rattle.sheet.specs.Cells.{HasDay, OnlyDays};
 ghost use Rattle.sheet.specs.Shares.{LiesIn, SharedOver, lies_in};
 ghost use Rattle.sheet.specs.Told.{Told};
 
@@ -9,6 +9,18 @@ use super::span::Span;
 use super::state::Sheet;
 use histories::Reading;
 use ledger::Ledger;
+
+// The days of a reading.
+impl From<Reading> for Span {
+    ghost from_gives = { λ reading span. (span.from ≡ reading.start) × (span.to ≡ reading.end) };
+
+    fn from(reading: Reading) -> Span {
+        Span {
+            from: reading.start,
+            to: reading.end,
+        }
+    }
+}
 
 impl Span {
     // The days that this or a reading spans.
@@ -28,8 +40,7 @@ impl Sheet {
     pub(crate) fn holds(&self, reading: &Reading) -> bool
         ensures { result ≡ lies_in self.now reading.now }
     {
-        1 <= reading.point
-            && reading.point <= self.points
+        (1..=self.points).contains(&reading.point)
             && reading.start < reading.end
             && reading.end <= self.days
     }
@@ -40,21 +51,12 @@ impl Sheet {
         ensures free { place.now ≡ Option.None → result ≡ Option.None }
         ensures law { (reading : Reading) → place.now ≡ Option.Some reading → LiesIn self.now reading → result ≡ (if covers reading reading.point day then Option.Some reading else Option.None) }
     {
-        match place {
-            Some(reading) => {
-                if self.holds(reading) && reading.start <= day && day < reading.end {
-                    Some(*reading)
-                } else {
-                    None
-                }
-            }
-            None => None,
-        }
+        place.filter(|reading| self.holds(reading) && (reading.start..reading.end).contains(&day))
     }
 
     // Shares the readings that cover a day anew, and says between which days those lie that they join to it.
     pub(crate) fn share_over(&mut self, ledger: &Ledger, day: u32) -> Span
-        requires { day < self.old.days }
+        requires { HasDay self.old day }
         ensures around { (result.from ≤ day) × ((day < result.to) × (result.to ≤ self.old.days)) }
         ensures stands { OnlyDays result.from result.to self.old self.new }
         ensures law { (s : Setting) (h : History) → Told s h ledger.now self.old → SharedOver s h day result.from result.to self.old self.new }

@@ -9,10 +9,10 @@ mod joined;
 mod knowing;
 mod moving;
 mod open;
-mod part;
 mod scaling;
 mod settling;
 mod shares;
+mod sources;
 mod span;
 mod standing;
 mod standings;
@@ -20,5 +20,6 @@ mod state;
 mod sums;
 
 pub use day_figures::DayFigures;
+pub use sources::Sources;
 pub use standing::Standing;
 pub use state::Sheet;

@@ -8,18 +8,7 @@ fn total_of(rows: &[EstimatedPoint]) -> u64
     requires { length rows.now ≤ 256 }
     ensures { result ≡ sum (estimates_of rows.now) }
 {
-    let mut total = 0;
-    for row in rows {
-        total += row.estimate;
-    }
-    total
-}
-
-// What a load leaves beside supplied energy.
-fn left_beside(supplied: u64, load: u64) -> u64
-    ensures { result ≡ load - supplied }
-{
-    load.saturating_sub(supplied)
+    rows.iter().map(|row| row.estimate).sum()
 }
 
 // Scales the estimates of a day: where they and supplied energy together exceed its load, what the load leaves is shared over them.
@@ -32,6 +21,6 @@ pub(crate) fn scale(load: Option<u64>, supplied: u64, rows: &mut [EstimatedPoint
     };
     let estimated = total_of(rows);
     if supplied.saturating_add(estimated) > load && estimated > 0 {
-        let _ = share(left_beside(supplied, load), rows);
+        share(load.saturating_sub(supplied), rows).unwrap();
     }
 }

@@ -2,12 +2,12 @@ ghost use Rattle.std.specs.Prelude.{◌≡◌, ℕ, ◌+◌, ◌-◌, ◌<◌, �
 ghost use Rattle.std.specs.Option.{unwrap_or};
 ghost use Rattle.histories.specs.Figures as law;
 ghost use Rattle.histories.specs.History.{History, Setting, covering};
-ghost use Rattle.sheet.specs.Cells.{OnlyDays, cell};
+ghost use Rattle.sheet.specs.Cells.{HasCell, HasDay, OnlyDays, cell};
 ghost use Rattle.sheet.specs.Scaling.{estimates_of, figures_of};
 ghost use Rattle.sheet.specs.Told.{EstimatesOn, ShowsDay, ShowsSupplied, Told};
 
-use super::part::Part;
 use super::scaling::scale;
+use super::sources::Sources;
 use super::state::Sheet;
 use estimators::{Estimator, POINTS};
 use ledger::Ledger;
@@ -32,29 +32,20 @@ fn unscaled(estimate: Option<u64>) -> EstimatedPoint
     }
 }
 
-// The estimate of a point on a day. An estimator counts the days from 1.
-pub(crate) fn estimate_of<E: Estimator>(estimator: &E, point: u32, day: u32) -> Option<u64>
-    requires { day < 400 }
-    ensures { result ≡ E.Estimator.meaning estimator.now point (day + 1) }
-{
-    estimator.figure(point, day + 1)
-}
-
 impl Sheet {
     // The estimate of a point on a day, not scaled yet. A missing one counts as 0, and so does that of a point which is not estimated.
     fn estimated<E: Estimator>(
         &self,
-        ledger: &Ledger,
-        estimator: &E,
+        sources: &Sources<'_, E>,
         point: u32,
         day: u32,
     ) -> EstimatedPoint
-        requires { (1 ≤ point) × ((point ≤ self.now.points) × (day < self.now.days)) }
+        requires { HasCell self.now point day }
         ensures same { result.figure ≡ result.estimate }
-        ensures law { (s : Setting) (h : History) → Told s h ledger.now self.now → EstimatesOn s h day (E.Estimator.meaning estimator.now) → result.estimate ≡ law.estimate_counted s h point day }
+        ensures law { (s : Setting) (h : History) → Told s h sources.now.ledger.now self.now → EstimatesOn s h day (E.Estimator.meaning sources.now.estimator.now) → result.estimate ≡ law.estimate_counted s h point day }
     {
-        let estimate = if self.is_estimated(ledger, point, day) {
-            estimate_of(estimator, point, day)
+        let estimate = if self.is_estimated(sources.ledger, point, day) {
+            sources.estimate_of(point, day)
         } else {
             None
         };
@@ -64,30 +55,30 @@ impl Sheet {
     // The estimates of a day's points in number order, not scaled yet.
     fn estimate_all<E: Estimator>(
         &self,
-        ledger: &Ledger,
-        estimator: &E,
+        sources: &Sources<'_, E>,
         day: u32,
         rows: &mut [EstimatedPoint],
     )
-        requires { (length rows.old ≡ self.now.points) × (day < self.now.days) }
+        requires { (length rows.old ≡ self.now.points) × HasDay self.now day }
         ensures same { figures_of rows.new ≡ estimates_of rows.new }
-        ensures law { (s : Setting) (h : History) → Told s h ledger.now self.now → EstimatesOn s h day (E.Estimator.meaning estimator.now) → estimates_of rows.new ≡ law.estimates s h day }
+        ensures law { (s : Setting) (h : History) → Told s h sources.now.ledger.now self.now → EstimatesOn s h day (E.Estimator.meaning sources.now.estimator.now) → estimates_of rows.new ≡ law.estimates s h day }
     {
-        for i in 0..rows.len() {
-            rows[i] = self.estimated(ledger, estimator, i as u32 + 1, day);
+        // `enumerate` and no zip with (1..): through a zip nothing is known of what is written.
+        for (i, row) in rows.iter_mut().enumerate() {
+            *row = self.estimated(sources, i as u32 + 1, day);
         }
     }
 
     // Shows the figures of a day's points that no reading covers.
     fn show_generated(&mut self, ledger: &Ledger, day: u32, rows: &[EstimatedPoint])
-        requires { (length rows.now ≡ self.old.points) × (day < self.old.days) }
+        requires { (length rows.now ≡ self.old.points) × HasDay self.old day }
         ensures stands { OnlyDays day (day + 1) self.old self.new }
         ensures law { (s : Setting) (h : History) → Told s h ledger.now self.old → (p : ℕ) → 1 ≤ p → p ≤ s.points → cell self.new p day ≡ (if is_some (covering h p day) then cell self.old p day else slice_index (figures_of rows.now) (p - 1)) }
     {
-        for i in 0..rows.len() {
-            let point = i as u32 + 1;
+        // Half open, for the same reason as in `missing`.
+        for (point, row) in (1..self.points + 1).zip(rows) {
             if !self.is_covered(ledger, point, day) {
-                self.show(point, day, rows[i].figure);
+                self.show(point, day, row.figure);
             }
         }
     }
@@ -95,30 +86,31 @@ impl Sheet {
     // The generated figures of a day's points in number order, scaled where they must be, beside the supplied figures that the sheet shows.
     fn generate<E: Estimator>(
         &self,
-        ledger: &Ledger,
-        estimator: &E,
+        sources: &Sources<'_, E>,
         day: u32,
         rows: &mut [EstimatedPoint],
     )
-        requires { (length rows.old ≡ self.now.points) × (day < self.now.days) }
-        ensures { (s : Setting) (h : History) → Told s h ledger.now self.now → EstimatesOn s h day (E.Estimator.meaning estimator.now) → ShowsSupplied s h self.now day → figures_of rows.new ≡ law.generated s h day }
+        requires { (length rows.old ≡ self.now.points) × HasDay self.now day }
+        ensures { (s : Setting) (h : History) → Told s h sources.now.ledger.now self.now → EstimatesOn s h day (E.Estimator.meaning sources.now.estimator.now) → ShowsSupplied s h self.now day → figures_of rows.new ≡ law.generated s h day }
     {
-        let supplied = self.sum_of(ledger, Part::Supplied, day);
-        self.estimate_all(ledger, estimator, day, rows);
+        let supplied = self.sum_of(day, |point| self.is_covered(sources.ledger, point, day));
+        self.estimate_all(sources, day, rows);
         scale(self.loads[day as usize], supplied, rows);
     }
 
     // Works out the generated figures of a day anew, beside the supplied ones that the sheet shows.
-    pub(crate) fn settle_day<E: Estimator>(&mut self, ledger: &Ledger, estimator: &E, day: u32)
+    pub(crate) fn settle_day<E: Estimator>(&mut self, sources: &Sources<'_, E>, day: u32)
         ensures stands { OnlyDays day (day + 1) self.old self.new }
-        ensures law { (s : Setting) (h : History) → Told s h ledger.now self.old → EstimatesOn s h day (E.Estimator.meaning estimator.now) → day < s.days → ShowsSupplied s h self.old day → ShowsDay s h self.new day }
+        ensures law { (s : Setting) (h : History) → Told s h sources.now.ledger.now self.old → EstimatesOn s h day (E.Estimator.meaning sources.now.estimator.now) → day < s.days → ShowsSupplied s h self.old day → ShowsDay s h self.new day }
     {
+        // Outside the sheet nothing changes, and no caller has to show that it is inside.
         if day >= self.days {
             return;
         }
+        // An array of fixed size, since a sheet allocates nothing.
         let mut all = [NOTHING; POINTS as usize];
         let rows = &mut all[0..self.points as usize];
-        self.generate(ledger, estimator, day, rows);
-        self.show_generated(ledger, day, rows);
+        self.generate(sources, day, rows);
+        self.show_generated(sources.ledger, day, rows);
     }
 }

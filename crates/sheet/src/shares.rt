@@ -5,7 +5,7 @@ ghost use Rattle.histories.specs.History.{History, Setting};
 ghost use Rattle.ledger.specs.declared.state.Ledger.{Ledger};
 ghost use Rattle.sharing.specs.Limits.{largest_day_weight};
 ghost use Rattle.sharing.specs.Sharing.{can_share};
-ghost use Rattle.sheet.specs.Cells.{OnlyDays, cell};
+ghost use Rattle.sheet.specs.Cells.{HasDay, HasPoint, OnlyDays, cell};
 ghost use Rattle.sheet.specs.Shares.{LiesIn, SharesShown, shares_of, weights_of};
 ghost use Rattle.sheet.specs.Told.{Told};
 
@@ -24,7 +24,7 @@ const UNSHARED: ReadingDay = ReadingDay {
 impl Sheet {
     // A day of the sheet by its weight, without a share yet.
     fn weighed(&self, day: u32) -> ReadingDay
-        requires { day < self.now.days }
+        requires { HasDay self.now day }
         ensures { (s : Setting) (h : History) (l : Ledger) → Told s h l self.now → result.weight ≡ law.weight s h day }
     {
         let load = self.loads[day as usize].unwrap_or(0);
@@ -39,19 +39,21 @@ impl Sheet {
         requires { start + length rows.old ≤ self.now.days }
         ensures { (s : Setting) (h : History) (l : Ledger) → Told s h l self.now → weights_of rows.new ≡ map (law.weight s h) (range_with_len start (length rows.old)) }
     {
-        for i in 0..rows.len() {
-            rows[i] = self.weighed(start + i as u32);
+        // `enumerate` and no zip with (start..): through a zip nothing is known of what is written.
+        for (i, row) in rows.iter_mut().enumerate() {
+            *row = self.weighed(start + i as u32);
         }
     }
 
     // Shows the shares of consecutive days of a point.
     fn show_shares(&mut self, point: u32, start: u32, rows: &[ReadingDay])
-        requires { (1 ≤ point) × ((point ≤ self.old.points) × (start + length rows.now ≤ self.old.days)) }
+        requires point { HasPoint self.old point }
+        requires days { start + length rows.now ≤ self.old.days }
         ensures stands { OnlyDays start (start + length rows.now) self.old self.new }
         ensures cells { (p d : ℕ) → 1 ≤ p → p ≤ self.old.points → cell self.new p d ≡ (if nat_eq point p && (nat_le start d && nat_lt d (start + length rows.now)) then slice_index (shares_of rows.now) (d - start) else cell self.old p d) }
     {
-        for i in 0..rows.len() {
-            self.show(point, start + i as u32, rows[i].share);
+        for (day, row) in (start..self.days).zip(rows) {
+            self.show(point, day, row.share);
         }
     }
 
@@ -63,6 +65,7 @@ impl Sheet {
         ensures law { (s : Setting) (h : History) (l : Ledger) → Told s h l self.old → can_share largest_day_weight reading.now.energy (law.weights s h reading.now) ≡ true → SharesShown s h reading.now self.old self.new }
     {
         self.weigh_days(reading.start, rows);
+        // Never refused for a reading that a book holds; this call cannot show that, so a refusal leaves the rows as they are.
         let _ = share(reading.energy, rows);
         self.show_shares(reading.point, reading.start, rows);
     }
@@ -73,6 +76,7 @@ impl Sheet {
         ensures stands { OnlyDays reading.now.start reading.now.end self.old self.new }
         ensures law { (s : Setting) (h : History) (l : Ledger) → Told s h l self.old → can_share largest_day_weight reading.now.energy (law.weights s h reading.now) ≡ true → SharesShown s h reading.now self.old self.new }
     {
+        // An array of fixed size, since a sheet allocates nothing.
         let mut rows = [UNSHARED; DAYS as usize];
         let days = (reading.end - reading.start) as usize;
         self.share_on_rows(reading, &mut rows[0..days]);

@@ -1,5 +1,5 @@
 // How a point stands on a day.
-#[derive(Clone, Copy)]
+#[derive(Clone, Copy, PartialEq, Eq, Debug)]
 pub enum Standing {
     // A reading covers the day.
     Covered,

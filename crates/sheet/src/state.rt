@@ -11,6 +11,7 @@ pub struct Sheet {
     pub(crate) days: u32,
     pub(crate) points: u32,
     pub(crate) figures: Vec<u64>,
+    // Arrays of fixed size, since a sheet allocates nothing.
     pub(crate) loads: [Option<u64>; DAYS as usize],
     pub(crate) covered_to: [u32; POINTS as usize],
     ghost few_days: { days ≤ 400 },

@@ -1,22 +1,21 @@
-ghost use Rattle.std.specs.Prelude.{◌≡◌, ◌-◌, ◌^◌, ◌<◌, min};
-ghost use Rattle.histories.specs.History.{History, Setting};
+ghost use Rattle.std.specs.Prelude.{◌≡◌, ℕ, ◌-◌, ◌^◌, ◌<◌, min, Bool};
+ghost use Rattle.sheet.specs.Cells.{HasDay, HasPoint};
 ghost use Rattle.sheet.specs.Sums.{counted_sum};
-ghost use Rattle.sheet.specs.Told.{Told};
 
-use super::part::Part;
 use super::state::Sheet;
-use ledger::Ledger;
 
 impl Sheet {
-    // What a part of a day's figures comes to, or the largest u64 where it is more: no book comes near it.
-    pub(crate) fn sum_of(&self, ledger: &Ledger, part: Part, day: u32) -> u64
-        requires { day < self.now.days }
-        ensures { (s : Setting) (h : History) → Told s h ledger.now self.now → result ≡ min (counted_sum h part self.now day s.points) (2 ^ 64 - 1) }
+    // What a day's figures come to at the points that count, or the largest u64 where it is more: no book comes near it.
+    pub(crate) fn sum_of<F: Fn(u32) -> bool>(&self, day: u32, counts: F) -> u64
+        requires day { HasDay self.now day }
+        requires counts { (p : ℕ) → HasPoint self.now p → F.pre counts p }
+        ensures { (counted : ℕ → Bool) → ((p : ℕ) (answer : Bool) → HasPoint self.now p → F.post counts p answer → answer ≡ counted p) → result ≡ min (counted_sum counted self.now day self.now.points) (2 ^ 64 - 1) }
     {
+        // A loop: as a chain over `counts`, which the caller gives, what `fold` requires did not prove.
         let mut total = 0u64;
-        for i in 0..self.points {
-            if self.counts(ledger, part, i + 1, day) {
-                total = total.saturating_add(self.shown(i + 1, day));
+        for point in 1..=self.points {
+            if counts(point) {
+                total = total.saturating_add(self.shown(point, day));
             }
         }
         total

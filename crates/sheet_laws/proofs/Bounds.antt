@@ -136,7 +136,7 @@ within_limits s (EnterGate date energy_in energy_out) e =
     (and_parts (leb energy_in largest_gate) (leb energy_out largest_gate) (not-false (leb energy_in largest_gate && leb energy_out largest_gate) e)).0
 within_limits s (EnterInterval date meter energy) e = refl
 within_limits s (EnterDegreeDays date count) e = refl
-within_limits s (EnterReading point start end energy type) e = refl
+within_limits s (EnterReading delivery) e = refl
 within_limits s (AskFigure point date) e = refl
 within_limits s (AskDay date) e = refl
 within_limits s (AskRetailer retailer date) e = refl

@@ -30,8 +30,8 @@ call_in s (Enrol point retailer start) three five =
 call_in s (EnterGate date energy_in energy_out) three five = place_within s date five
 call_in s (EnterInterval date meter energy) three five = place_within s date five
 call_in s (EnterDegreeDays date count) three five = (place_within s date five, leb-true count greatest_count (not-false _ three))
-call_in s (EnterReading point start end energy type) three five =
-    between_parts 1 s.points point (and_parts (between 1 s.points point) (energy_within energy) (not-false _ three)).0
+call_in s (EnterReading delivery) three five =
+    between_parts 1 s.points delivery.point (and_parts (between 1 s.points delivery.point) (energy_within delivery.energy) (not-false _ three)).0
 call_in s (AskFigure point date) three five = tt
 call_in s (AskDay date) three five = tt
 call_in s (AskRetailer retailer date) three five = tt

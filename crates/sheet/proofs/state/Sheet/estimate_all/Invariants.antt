@@ -8,5 +8,5 @@ use Rattle.sheet.proofs.state.Sheet.estimate_all.Given as goal
 abbrev pub invariant-loop-i : goal.invariant-loop-i
 invariant-loop-i g l =
     ((k : ℕ) → k < l.i → get_or (figures_of l.rows) k 0 ≡ get_or (estimates_of l.rows) k 0)
-    × ((s : Setting) (h : History) → Told s h l.ledger l.self → EstimatesOn s h l.day (g.E.Estimator.meaning l.estimator)
+    × ((s : Setting) (h : History) → Told s h l.sources.ledger.now l.self → EstimatesOn s h l.day (g.E.Estimator.meaning l.sources.estimator.now)
     → (k : ℕ) → k < l.i → get_or (estimates_of l.rows) k 0 ≡ estimate_counted s h (k + 1) l.day)

@@ -1,15 +1,11 @@
-use Rattle.std.proofs.Common.{◌≡◌, ℕ, ◌*◌, ◌++◌, map, take, drop, vec_items, vec_len, sym, refl, ap, ◌∙◌, arith}
-use Rattle.std.proofs.lemmas.Bool.{and_from, le-leb}
+use Rattle.std.proofs.Common.{◌≡◌, ℕ, ◌*◌, ◌++◌, map, take, drop, vec_items, sym, refl, ap, ◌∙◌, arith}
 use Rattle.ledger.proofs.Opened.{zero_of}
 use Rattle.sheet.proofs.Opened.{stands_open}
 use Rattle.sheet.proofs.state.Sheet.open.Goals as goal
 
-pub returns : goal.returns
-returns c = record {
-  answer = sym (and_from _ _ (le-leb c.args.days 400 (omega arith)) (and_from _ _ (le-leb c.args.points 256 (omega arith)) (le-leb (c.args.days * c.args.points) (vec_len c.args.figures) (omega (arith, c.len.ensures)))));
-  stands = λ s days points.
-      let places : s.days * s.points ≡ c.args.days * c.args.points = λ i. days i * points i in
-      stands_open s _ _ (vec_items c.args.figures) (sym days) (sym points) (omega (arith, c.len.ensures, places, c.args.figures.ok.0))
-      (c.emptied.ensures.items ∙ ap (λ (n : ℕ). map zero_of (take n (vec_items c.args.figures)) ++ drop n (vec_items c.args.figures)) (sym places)) refl
-      (ap (λ (n : ℕ). drop n (vec_items c.args.figures)) places);
-}
+pub returns-clause-stands : goal.returns-clause-stands
+returns-clause-stands c = λ s days points.
+    let places : s.days * s.points ≡ c.args.days * c.args.points = λ i. days i * points i in
+    stands_open s _ _ (vec_items c.args.figures) (sym days) (sym points) (omega (arith, c.len.ensures, places, c.args.figures.ok.0))
+    (c.emptied.ensures.items ∙ ap (λ (n : ℕ). map zero_of (take n (vec_items c.args.figures)) ++ drop n (vec_items c.args.figures)) (sym places)) refl
+    (ap (λ (n : ℕ). drop n (vec_items c.args.figures)) places)

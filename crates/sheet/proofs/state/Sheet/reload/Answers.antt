@@ -3,29 +3,23 @@ use Rattle.sheet.proofs.Keeping.{told_only}
 use Rattle.sheet.proofs.Reworked.{load_reworked, supplied_after_load, told_load}
 use Rattle.sheet.proofs.state.Sheet.reload.Goals as goal
 
-pub returns-then-day-self : goal.returns-then-day-self
-returns-then-day-self g c = λ s rest h new moved follows on within stood. absurd (omega (arith, stood.days, within, c.if-day-self.true))
-
-pub share_over-span-requires : goal.share_over-span-requires
-share_over-span-requires g c = omega (arith, c.learn_load.ensures.days, c.if-day-self.false)
-
 pub returns : goal.returns
 returns g c = λ s rest h new moved follows on within stood.
     let day = c.args.day in
-    let ledger = c.args.ledger.now in
+    let ledger = c.args.sources.now.ledger.now in
     let old = c.args.self.now in
     let knowing = c.learn_load.new.self in
-    let sharing = c.share_over-span.new.self in
-    let from = c.share_over-span.result.from in
-    let to = c.share_over-span.result.to in
+    let sharing = c.share_over-joined.new.self in
+    let from = c.share_over-joined.result.from in
+    let to = c.share_over-joined.result.to in
     let learned = c.learn_load.ensures.after s new follows in
     let inside = c.learn_load.ensures.within in
-    let around = c.share_over-span.ensures.around in
-    let only = c.share_over-span.ensures.stands in
+    let around = c.share_over-joined.ensures.around in
+    let only = c.share_over-joined.ensures.stands in
     let told = told_load s h new day ledger moved follows old knowing stood learned inside in
-    let shared = c.share_over-span.ensures.law s new told in
-    let last : c.share_over-span.result.to ≤ s.days = omega (arith, told.days, around.1.1) in
-    load_reworked s h new day ledger moved follows old knowing stood learned inside from to sharing around.0 around.1.0 around.1.1 only shared c.settle_span.new.self
-    c.settle_span.ensures.stands
-    (c.settle_span.ensures.law s new (told_only only told) on last
+    let shared = c.share_over-joined.ensures.law s new told in
+    let last : c.share_over-joined.result.to ≤ s.days = omega (arith, told.days, around.1.1) in
+    load_reworked s h new day ledger moved follows old knowing stood learned inside from to sharing around.0 around.1.0 around.1.1 only shared c.settle_days.new.self
+    c.settle_days.ensures.stands
+    (c.settle_days.ensures.law s new (told_only only told) on last
     (λ d low high. supplied_after_load s h new day ledger moved follows old knowing stood learned inside from to sharing around.0 around.1.0 around.1.1 only shared d))

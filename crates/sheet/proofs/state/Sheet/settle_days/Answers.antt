@@ -1,14 +1,9 @@
 use Rattle.std.proofs.Common.{◌≡◌, sym, ◌∙◌, subst, inl, inr, ⊎_elim, arith}
 use Rattle.std.proofs.lemmas.Bool.{cases_eq}
-use Rattle.sheet.specs.Cells.{OnlyDays}
 use Rattle.sheet.specs.Told.{ShowsDay}
 use Rattle.sheet.proofs.Keeping.{told_only}
 use Rattle.sheet.proofs.Stretches.{day_stands, only_join, supplied_stands}
-use Rattle.sheet.proofs.Writing.{only_none}
 use Rattle.sheet.proofs.state.Sheet.settle_days.Goals as goal
-
-pub loop-day-init : goal.loop-day-init
-loop-day-init g c = (only_none _ _ _, λ s h told on inside shows d low high. absurd (omega arith))
 
 pub loop-day-preserved : goal.loop-day-preserved
 loop-day-preserved g c =
@@ -26,11 +21,3 @@ loop-day-preserved g c =
           day_stands here s h d many (inl (omega arith)) (c.loop-day.invariant.1 s h told on inside shows d low (omega arith)))
           (cases_eq d c.loop-day.day),
     )
-
-pub returns : goal.returns
-returns g c =
-    let all : c.loop-day.day ≡ c.args.to = omega (arith, c.requires, c.loop-day.auto.day-end, c.loop-day-test.false) in
-    record {
-      stands = subst (λ n. OnlyDays c.args.from n c.args.self.now c.loop-day.self) all c.loop-day.invariant.0;
-      law = λ s h told on inside shows d low high. c.loop-day.invariant.1 s h told on inside shows d low (omega arith);
-    }

@@ -6,6 +6,6 @@ use Rattle.sheet.proofs.state.Sheet.settle_days.Given as goal
 
 abbrev pub invariant-loop-day : goal.invariant-loop-day
 invariant-loop-day g l =
-    OnlyDays l.from l.day l.initial.self l.self
-    × ((s : Setting) (h : History) → Told s h l.ledger l.initial.self → Estimates s h (g.E.Estimator.meaning l.estimator) → l.to ≤ s.days
-    → ((d : ℕ) → l.from ≤ d → d < l.to → ShowsSupplied s h l.initial.self d) → (d : ℕ) → l.from ≤ d → d < l.day → ShowsDay s h l.self d)
+    OnlyDays l.fn.span.from l.day l.initial.self l.self
+    × ((s : Setting) (h : History) → Told s h l.sources.ledger.now l.initial.self → Estimates s h (g.E.Estimator.meaning l.sources.estimator.now) → l.fn.span.to ≤ s.days
+    → ((d : ℕ) → l.fn.span.from ≤ d → d < l.fn.span.to → ShowsSupplied s h l.initial.self d) → (d : ℕ) → l.fn.span.from ≤ d → d < l.day → ShowsDay s h l.self d)

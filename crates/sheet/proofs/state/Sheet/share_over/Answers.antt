@@ -5,13 +5,10 @@ use Rattle.sheet_laws.proofs.Placed.{placed_is_held}
 use Rattle.sheet.specs.Told.{Told}
 use Rattle.sheet.specs.declared.span.Span.{Span}
 use Rattle.sheet.specs.declared.state.Sheet.{Sheet}
-use Rattle.sheet.proofs.Joining.{SharedTo, Spanned, held_shareable, moved, placed_found, placed_lies, placed_not_found, shared_all, shared_more, shared_none, shared_skip, spanned_more, spanned_none}
+use Rattle.sheet.proofs.Joining.{SharedTo, Spanned, held_shareable, moved, placed_found, placed_lies, placed_not_found, shared_all, shared_more, shared_skip, spanned_more}
 use Rattle.sheet.proofs.Keeping.{told_only}
 use Rattle.sheet.proofs.state.Sheet.share_over.Goals as goal
 use Rattle.sheet.proofs.state.Sheet.share_over.Goals.{in-Some, in_default}
-
-pub loop-place-init : goal.loop-place-init
-loop-place-init c = (spanned_none c.args.day c.args.self.now c.requires, λ s h told. shared_none s h (vec_items c.args.ledger.now.places) c.args.day c.args.self.now)
 
 pub loop-place-preserved : goal.loop-place-preserved
 loop-place-preserved c =
@@ -54,13 +51,7 @@ loop-place-preserved c =
           )
     ]
 
-pub returns : goal.returns
-returns c =
-    let spanned = c.loop-place.invariant.0 in
-    record {
-      around = (spanned.low, (spanned.high, spanned.last));
-      stands = spanned.only;
-      law = λ s h told.
-          shared_all c.args.day c.loop-place.place-index c.loop-place.span.from c.loop-place.span.to told
-          (omega (arith, ap length c.places-place-items.ensures, c.loop-place-test.false)) (c.loop-place.invariant.1 s h told);
-    }
+pub returns-clause-law : goal.returns-clause-law
+returns-clause-law c = λ s h told.
+    shared_all c.args.day c.loop-place.place-index c.loop-place.span.from c.loop-place.span.to told
+    (omega (arith, ap length c.places-place-items.ensures, c.loop-place-test.false)) (c.loop-place.invariant.1 s h told)

@@ -1,52 +1,58 @@
-use Rattle.std.proofs.Common.{◌≡◌, ◌+◌, ◌≤◌, true, false, get_or, is_some, sym, ◌∙◌, subst, arith}
+use Rattle.std.proofs.Common.{◌≡◌, ℕ, ◌+◌, ◌≤◌, true, false, length, length-append, is_some, rules, sym, refl, ap, ◌∙◌, subst, arith}
 use Rattle.std.proofs.lemmas.List.{get_or-map}
 use Rattle.histories.specs.History.{covering}
 use Rattle.sharing.specs.declared.estimated_point.EstimatedPoint.{EstimatedPoint}
-use Rattle.sheet.specs.Scaling.{figures_of}
-use Rattle.sheet.specs.Cells.{OnlyDays}
-use Rattle.sheet.specs.declared.state.Sheet.{Sheet}
-use Rattle.sheet.proofs.Generating.{Shown, shown_kept, shown_none, shown_written}
+use Rattle.sheet.proofs.Generating.{shown_kept, shown_written}
 use Rattle.sheet.proofs.Keeping.{told_only}
-use Rattle.sheet.proofs.Writing.{Written, only_none, written_only}
+use Rattle.sheet.proofs.Writing.{Written, written_only}
+use Rattle.sheet.proofs.Zipped.{numbered_turn}
 use Rattle.sheet.proofs.state.Sheet.show_generated.Goals as goal
-use Rattle.sheet.proofs.state.Sheet.show_generated.Goals.{then-not-is_covered, else-not-is_covered}
 
-pub loop-i-init : goal.loop-i-init
-loop-i-init c = (only_none _ _ _, λ s h told. shown_none h s.points c.args.day (figures_of c.args.rows.now) c.args.self.now)
+pub is_covered-requires : goal.is_covered-requires
+is_covered-requires c =
+    let turn = numbered_turn 1 (c.args.self.now.points + 1) c.args.rows.now c.loop-point.yielded c.into_iter-point-iterator.result c.loop-point.point-iterator c.next.new.self c.next.result (search rules) (search rules) c.loop-point.yielded_by (c.in-Some.point, c.in-Some.row) c.in-Some.is c.next.ensures.steps in
+    let only = c.loop-point.invariant.0 in
+    (omega (arith, turn.1), omega (arith, turn.0, turn.1, only.points, c.requires.0))
 
-pub loop-i-preserved : goal.loop-i-preserved
-loop-i-preserved c =
-    let only = c.loop-i.invariant.0 in
-    let i = c.loop-i.i in
-    let few : c.loop-i.i + 1 ≤ c.loop-i.self.points = omega (arith, only.points, c.requires.0, c.loop-i-test.true) in
-    elim c.if-not-is_covered.branch [
-      | then-not-is_covered w ↦
-          let here = w.show.ensures in
-          let written : Written (c.loop-i.i + 1) c.args.day (get_or c.args.rows.now c.loop-i.i w.index-rows-i.result).figure c.loop-i.self w.show.new.self = record {
-            days = here.days;
-            points = here.points;
-            loads = here.loads;
-            covered = here.covered;
-            figures = here.figures;
-            within = here.within;
-          } in (
-            subst (λ (b : Sheet). OnlyDays c.args.day (c.args.day + 1) c.args.self.now b) (sym w.self-is) (written_only written only (omega arith) few (omega arith) (omega arith)),
-            λ s h told.
-                let none : is_some (covering h (c.loop-i.i + 1) c.args.day) ≡ false = sym (c.is_covered.ensures s h (told_only only told)) ∙ w.if-not-is_covered.true in
-                subst (λ (b : Sheet). Shown h s.points c.args.day (figures_of c.args.rows.now) (c.loop-i.i + 1) c.args.self.now b) (sym w.self-is)
-                (shown_written (c.loop-i.invariant.1 s h told) none (only.points ∙ told.points) (omega (arith, few, only.points, told.points)) written
-                (sym (get_or-map (λ (row : EstimatedPoint). row.figure) c.args.rows.now i w.index-rows-i.result 0 c.loop-i-test.true))),
-          )
-      | else-not-is_covered w ↦ (
-        subst (λ (b : Sheet). OnlyDays c.args.day (c.args.day + 1) c.args.self.now b) (sym w.self-is) only,
-        λ s h told.
-            let covers : is_some (covering h (c.loop-i.i + 1) c.args.day) ≡ true = sym (c.is_covered.ensures s h (told_only only told)) ∙ w.if-not-is_covered.false in
-            shown_kept (c.loop-i.invariant.1 s h told) covers w.self-is,
-      )
-    ]
+pub show-requires : goal.show-requires
+show-requires c =
+    let turn = numbered_turn 1 (c.args.self.now.points + 1) c.args.rows.now c.loop-point.yielded c.into_iter-point-iterator.result c.loop-point.point-iterator c.next.new.self c.next.result (search rules) (search rules) c.loop-point.yielded_by (c.in-Some.point, c.in-Some.row) c.in-Some.is c.next.ensures.steps in
+    let only = c.loop-point.invariant.0 in
+    ((omega (arith, turn.1), omega (arith, turn.0, turn.1, only.points, c.requires.0)), omega (arith, only.days, c.requires.1))
 
-pub returns : goal.returns
-returns c = record {
-  stands = c.loop-i.invariant.0;
-  law = λ s h told p low high. (c.loop-i.invariant.1 s h told).done p low high (omega (arith, c.loop-i-test.false, c.requires.0, told.points));
-}
+pub loop-point-preserved-then-not-is_covered : goal.loop-point-preserved-then-not-is_covered
+loop-point-preserved-then-not-is_covered c =
+    let turn = numbered_turn 1 (c.args.self.now.points + 1) c.args.rows.now c.loop-point.yielded c.into_iter-point-iterator.result c.loop-point.point-iterator c.next.new.self c.next.result (search rules) (search rules) c.loop-point.yielded_by (c.in-Some.point, c.in-Some.row) c.in-Some.is c.next.ensures.steps in
+    let only = c.loop-point.invariant.0 in
+    let at : c.in-Some.point ≡ length c.loop-point.yielded + 1 = omega (arith, turn.1) in
+    let row = c.in-Some.row.now in
+    let few : length c.loop-point.yielded + 1 ≤ c.loop-point.self.points = omega (arith, only.points, c.requires.0, turn.0) in
+    let here = c.show.ensures in
+    let there : Written c.in-Some.point c.args.day row.figure c.loop-point.self c.show.new.self = record {
+      days = here.days;
+      points = here.points;
+      loads = here.loads;
+      covered = here.covered;
+      figures = here.figures;
+      within = here.within;
+    } in
+    let written : Written (length c.loop-point.yielded + 1) c.args.day row.figure c.loop-point.self c.show.new.self = subst (λ (q : ℕ). Written q c.args.day row.figure c.loop-point.self c.show.new.self) at there in
+    rw length-append (
+      written_only written only (omega arith) few (omega arith) (omega arith),
+      λ s h told.
+          let none : is_some (covering h (length c.loop-point.yielded + 1) c.args.day) ≡ false = ap (λ (q : ℕ). is_some (covering h q c.args.day)) (sym at) ∙ sym (c.is_covered.ensures s h (told_only only told)) ∙ c.if-not-is_covered.true in
+          shown_written (c.loop-point.invariant.1 s h told) none (only.points ∙ told.points) (omega (arith, few, only.points, told.points)) written
+          (sym (get_or-map (λ (r : EstimatedPoint). r.figure) c.args.rows.now (length c.loop-point.yielded) row 0 turn.0 ∙ sym (ap (λ (r : EstimatedPoint). r.figure) (turn.2 row)))),
+    )
+
+pub loop-point-preserved : goal.loop-point-preserved
+loop-point-preserved c =
+    let turn = numbered_turn 1 (c.args.self.now.points + 1) c.args.rows.now c.loop-point.yielded c.into_iter-point-iterator.result c.loop-point.point-iterator c.next.new.self c.next.result (search rules) (search rules) c.loop-point.yielded_by (c.in-Some.point, c.in-Some.row) c.in-Some.is c.next.ensures.steps in
+    let only = c.loop-point.invariant.0 in
+    let at : c.in-Some.point ≡ length c.loop-point.yielded + 1 = omega (arith, turn.1) in
+    rw length-append (
+      only,
+      λ s h told.
+          let covers : is_some (covering h (length c.loop-point.yielded + 1) c.args.day) ≡ true = ap (λ (q : ℕ). is_some (covering h q c.args.day)) (sym at) ∙ sym (c.is_covered.ensures s h (told_only only told)) ∙ c.if-not-is_covered.false in
+          shown_kept (c.loop-point.invariant.1 s h told) covers refl,
+    )

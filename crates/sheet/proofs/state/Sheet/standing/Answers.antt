@@ -2,24 +2,24 @@ use Rattle.std.proofs.lemmas.Bool.{le-ltb, lt-ltb}
 use Rattle.sheet.proofs.Present.{absent, active_from, active_never, active_not_yet, present}
 use Rattle.sheet.proofs.state.Sheet.standing.Goals as goal
 
-pub returns-then-day-enrolment : goal.returns-then-day-enrolment
-returns-then-day-enrolment c = λ s h told.
-    absent told c.args.point c.args.day c.requires.0 c.requires.1
-    (active_not_yet h c.args.point c.args.day c.in-Some.enrolment (c.in-Some.ensures.law s h told.follows) c.if-day-enrolment.true)
-
 pub returns-then-day-self : goal.returns-then-day-self
 returns-then-day-self c = λ s h told.
     present told c.args.point c.args.day c.requires.0 c.requires.1 _
-    (active_from h c.args.point c.args.day c.in-Some.enrolment (c.in-Some.ensures.law s h told.follows) c.if-day-enrolment.false)
+    (active_from h c.args.point c.args.day c.in-Some.enrolment (c.in-Some.ensures.law s h told.follows) c.if-enrolment-day.true)
     (lt-ltb _ _ c.if-day-self.true)
 
 pub returns-else-day-self : goal.returns-else-day-self
 returns-else-day-self c = λ s h told.
     present told c.args.point c.args.day c.requires.0 c.requires.1 _
-    (active_from h c.args.point c.args.day c.in-Some.enrolment (c.in-Some.ensures.law s h told.follows) c.if-day-enrolment.false)
+    (active_from h c.args.point c.args.day c.in-Some.enrolment (c.in-Some.ensures.law s h told.follows) c.if-enrolment-day.true)
     (le-ltb _ _ c.if-day-self.false)
 
-pub returns-in-None : goal.returns-in-None
-returns-in-None c = λ s h told.
+pub returns-in_default : goal.returns-in_default
+returns-in_default c = λ s h told.
     absent told c.args.point c.args.day c.requires.0 c.requires.1
-    (active_never h c.args.point c.args.day (c.in-None.ensures.law s h told.follows))
+    (active_not_yet h c.args.point c.args.day c.in-Some.enrolment (c.in-Some.ensures.law s h told.follows) c.if-enrolment-day.false)
+
+pub returns-in_default-2 : goal.returns-in_default-2
+returns-in_default-2 c = λ s h told.
+    absent told c.args.point c.args.day c.requires.0 c.requires.1
+    (active_never h c.args.point c.args.day (c.in_default.ensures.law s h told.follows))

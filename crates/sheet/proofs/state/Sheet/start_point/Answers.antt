@@ -1,19 +1,19 @@
 use Rattle.std.proofs.Common.{ℕ, subst, arith}
+use Rattle.std.proofs.lemmas.Bool.Decides.{nat_tests}
 use Rattle.histories.specs.declared.entry.Entry.TheVariants.{Enrolled}
 use Rattle.sheet_laws.proofs.Entered.{entry_in}
 use Rattle.sheet.specs.Cells.{OnlyDays}
 use Rattle.sheet.proofs.Reworked.{enrolment_reworked, supplied_after_enrolment, told_enrolment}
 use Rattle.sheet.proofs.state.Sheet.start_point.Goals as goal
-use Rattle.sheet.proofs.state.Sheet.start_point.Goals.{then-point-lt1-via-then-point-lt1, then-point-lt1-via-else-point-lt1+then-point-self, then-point-lt1-via-else-point-lt1+else-point-self+then-enrolment-self}
+use Rattle.sheet.proofs.state.Sheet.start_point.Goals.{then-not-contains-via-then-not-contains, then-not-contains-via-else-not-contains+then-enrolment-self}
 
-pub returns-then-point-lt1 : goal.returns-then-point-lt1
-returns-then-point-lt1 g c = λ s rest h lawful follows on stood.
+pub returns-then-not-contains : goal.returns-then-not-contains
+returns-then-not-contains g c = λ s rest h lawful follows on stood.
     let inside = entry_in s h (Enrolled c.args.point c.args.enrolment) lawful in
     absurd (
-    elim c.then-point-lt1.branch [
-      | then-point-lt1-via-then-point-lt1 w ↦ omega (arith, inside.0, w.if-point-lt1.true)
-      | then-point-lt1-via-else-point-lt1+then-point-self w ↦ omega (arith, inside.1, stood.points, w.if-point-self.true)
-      | then-point-lt1-via-else-point-lt1+else-point-self+then-enrolment-self w ↦ omega (arith, inside.2, stood.days, w.if-enrolment-self.true)
+    elim c.then-not-contains.branch [
+      | then-not-contains-via-then-not-contains w ↦ grind (arith, nat_tests, inside.0, inside.1, stood.points)
+      | then-not-contains-via-else-not-contains+then-enrolment-self w ↦ omega (arith, inside.2, stood.days, w.if-enrolment-self.true)
     ]
     )
 
@@ -21,17 +21,17 @@ pub returns : goal.returns
 returns g c = λ s rest h lawful follows on stood.
     let point = c.args.point in
     let enrolment = c.args.enrolment in
-    let ledger = c.args.ledger.now in
+    let ledger = c.args.sources.now.ledger.now in
     let old = c.args.self.now in
     let knowing = c.cover_to.new.self in
     let learned = c.cover_to.ensures.after in
     let known = told_enrolment s h point enrolment ledger lawful follows old knowing stood learned c.cover_to.ensures.within in
     let from = c.days_from-days.ensures.from in
     let to = c.days_from-days.ensures.to in
-    enrolment_reworked s h point enrolment ledger lawful follows old knowing stood learned c.cover_to.ensures.within c.settle_span.new.self
-    (subst (λ (n : ℕ). OnlyDays n c.cover_to.new.self.days c.cover_to.new.self c.settle_span.new.self) from
-    (subst (λ (n : ℕ). OnlyDays c.days_from-days.result.from n c.cover_to.new.self c.settle_span.new.self) to c.settle_span.ensures.stands))
+    enrolment_reworked s h point enrolment ledger lawful follows old knowing stood learned c.cover_to.ensures.within c.settle_days.new.self
+    (subst (λ (n : ℕ). OnlyDays n c.cover_to.new.self.days c.cover_to.new.self c.settle_days.new.self) from
+    (subst (λ (n : ℕ). OnlyDays c.days_from-days.result.from n c.cover_to.new.self c.settle_days.new.self) to c.settle_days.ensures.stands))
     (λ d low high.
-    c.settle_span.ensures.law s _ known on (omega (arith, known.days, to))
+    c.settle_days.ensures.law s _ known on (omega (arith, known.days, to))
     (λ e first last. supplied_after_enrolment s h point enrolment ledger lawful follows old knowing stood learned c.cover_to.ensures.within e (omega (arith, known.days, to, last)))
     d (omega (arith, from, low)) (omega (arith, to, high)))

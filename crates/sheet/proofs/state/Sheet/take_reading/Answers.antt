@@ -1,5 +1,6 @@
-use Rattle.std.proofs.Common.{sym, refl, ◌∙◌, inl, arith}
+use Rattle.std.proofs.Common.{ℕ, sym, refl, ◌∙◌, subst, inl, arith}
 use Rattle.std.proofs.lemmas.Bool.{both_ways}
+use Rattle.sheet.specs.Cells.{OnlyDays}
 use Rattle.sheet.proofs.Joining.{held_lies, held_shareable}
 use Rattle.sheet.proofs.Keeping.{told_only}
 use Rattle.sheet.proofs.Reworked.{reading_lies, reading_reworked, supplied_after_reading, told_reading}
@@ -13,7 +14,7 @@ returns-then-not-holds g c = λ s rest h lawful follows on stood.
 pub returns : goal.returns
 returns g c = λ s rest h lawful follows on stood.
     let r = c.args.reading.now in
-    let ledger = c.args.ledger.now in
+    let ledger = c.args.sources.now.ledger.now in
     let old = c.args.self.now in
     let knowing = c.cover_at_least.new.self in
     let sharing = c.share_reading.new.self in
@@ -23,6 +24,12 @@ returns g c = λ s rest h lawful follows on stood.
     let lies = held_lies told r (inl refl) in
     let shared = c.share_reading.ensures.law s _ ledger told (held_shareable told r (inl refl)) in
     let only = c.share_reading.ensures.stands in
-    reading_reworked s h r ledger lawful follows old knowing stood learned inside c.settle_days.new.self (only_again only c.settle_days.ensures.stands) lies.last
-    (c.settle_days.ensures.law s _ (told_only only told) on (omega (arith, told.days, lies.last))
-    (λ d low high. supplied_after_reading s h r ledger lawful follows old knowing stood learned inside sharing shared d))
+    let from = c.from.ensures.0 in
+    let to = c.from.ensures.1 in
+    let settled : OnlyDays c.args.reading.now.start c.args.reading.now.end c.share_reading.new.self c.settle_days.new.self =
+    subst (λ (n : ℕ). OnlyDays n c.args.reading.now.end c.share_reading.new.self c.settle_days.new.self) from
+    (subst (λ (n : ℕ). OnlyDays c.from.result.from n c.share_reading.new.self c.settle_days.new.self) to c.settle_days.ensures.stands) in
+    reading_reworked s h r ledger lawful follows old knowing stood learned inside c.settle_days.new.self (only_again only settled) lies.last
+    (λ d low high.
+    c.settle_days.ensures.law s _ (told_only only told) on (omega (arith, told.days, lies.last, to))
+    (λ e first last. supplied_after_reading s h r ledger lawful follows old knowing stood learned inside sharing shared e) d (omega (arith, from, low)) (omega (arith, to, high)))
