@@ -1,5 +1,6 @@
 pub mod Asked
 pub mod Counted
+pub mod Loaded
 pub mod Moment
 pub mod Opening
 pub mod Runs

@@ -7,7 +7,7 @@ use Rattle.figure_laws.proofs.Local.{count_elsewhere, count_here, reading_elsewh
 use Rattle.figure_laws.proofs.Retailers.{retailers_balance}
 use Rattle.figure_laws.proofs.Showing.{shows_estimate, shows_share}
 use Rattle.figure_laws.specs.Days.{SameDay}
-use Rattle.histories.specs.Calls.{Lawful, energy_of, place, refusal}
+use Rattle.histories.specs.Calls.{Lawful, place, reading_of, refusal}
 use Rattle.histories.specs.Figures.{figure}
 use Rattle.histories.specs.History.{History, Setting, covers}
 use Rattle.histories.specs.declared.call.Call.{Call}
@@ -17,6 +17,7 @@ use Rattle.histories.specs.declared.entry.Entry.TheVariants.{DegreeDaysEntered, 
 use Rattle.histories.specs.declared.entry.Reading.{Reading}
 use Rattle.book.specs.Moments.{Moment, Moves}
 use Rattle.book.specs.Replies.{lengthened}
+use Rattle.book.proofs.Steps.{asked_stays}
 
 pub moment : (s : Setting) (h : History) → Lawful s h → Moment s h
 moment s h lawful = record {
@@ -47,11 +48,6 @@ either : (P : History → Type 0) (h : History) (e : Entry) (o : Option ℕ) →
 either P h e None before longer = longer
 either P h e (Some n) before longer = before
 
--- a question leaves the history
-pub asked_stays : (h : History) (o : Option ℕ) → lengthened o None h ≡ h
-asked_stays h None = refl
-asked_stays h (Some n) = refl
-
 -- a reading covers no day before its start, nor any from its end on
 not_covered_outside : (r : Reading) (d : ℕ) → (d < r.start) ⊎ (r.end ≤ d) → covers r r.point d ≡ false
 not_covered_outside r d (inl before) = and_right (eqb r.point r.point) _ (and_left (leb r.start d) (ltb d r.end) (lt-leb r.start d before))
@@ -74,12 +70,12 @@ moves s h (EnterDegreeDays date count) lawful = (
   λ p low none.
       either (λ x. figure s x p (place s date) ≡ figure s h p (place s date)) h (DegreeDaysEntered (place s date) count) (refusal s h (EnterDegreeDays date count)) refl (count_here s h (place s date) p count low none),
 )
-moves s h (EnterReading point start end energy type) lawful =
-    let r : Reading = record { point = point; start = place s start; end = place s end; energy = energy_of energy; reading_type = type } in (
+moves s h (EnterReading delivery) lawful =
+    let r : Reading = reading_of s delivery in (
       λ d outside.
-          either (λ x. SameDay s h x d) h (ReadingTaken r) (refusal s h (EnterReading point start end energy type)) (same_day s h d) (reading_elsewhere s h r d (not_covered_outside r d outside)),
+          either (λ x. SameDay s h x d) h (ReadingTaken r) (refusal s h (EnterReading delivery)) (same_day s h d) (reading_elsewhere s h r d (not_covered_outside r d outside)),
       λ p d low other none.
-          either (λ x. figure s x p d ≡ figure s h p d) h (ReadingTaken r) (refusal s h (EnterReading point start end energy type)) refl (reading_others s h r p d low other none),
+          either (λ x. figure s x p d ≡ figure s h p d) h (ReadingTaken r) (refusal s h (EnterReading delivery)) refl (reading_others s h r p d low other none),
     )
 moves s h (AskFigure point date) lawful = asked_stays h (refusal s h (AskFigure point date))
 moves s h (AskDay date) lawful = asked_stays h (refusal s h (AskDay date))

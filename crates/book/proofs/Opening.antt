@@ -1,30 +1,28 @@
 -- What opens, as it is taken out of its answer. Assumes nothing.
-use Rattle.std.proofs.Common.{◌≡◌, ℕ, ◌*◌, true, false, [], drop, is_ok, IfOk, IfErr, Ok, Err, vec_items, vec_len, Option, Result, Vec, ap, ◌∙◌, subst, MatchResult}
+use Rattle.std.proofs.Common.{◌≡◌, ℕ, ◌*◌, true, false, [], drop, is_ok, IfOk, IfErr, Ok, Err, vec_items, vec_len, Result, Vec, ap, ◌∙◌, subst, MatchResult}
 use Rattle.std.proofs.lemmas.Bool.{false≢true, true≢false}
 use Rattle.std.specs.declared.alloc.Global.{Global}
 use Rattle.estimators.specs.Meaning.{Meaning}
 use Rattle.histories.specs.Calls.{meters}
 use Rattle.histories.specs.History.{Setting}
-use Rattle.histories.specs.declared.entry.Reading.{Reading}
 use Rattle.ledger.specs.Beyond.{beyond_days}
 use Rattle.ledger.specs.Opened.{OpenedAs, setting_of}
 use Rattle.ledger.specs.Told.{Follows}
+use Rattle.ledger.specs.declared.lists.Lists.{Lists}
 use Rattle.ledger.specs.declared.open.Unopened.{Unopened}
+use Rattle.ledger.specs.declared.opening.OpeningRequest.{OpeningRequest}
 use Rattle.ledger.specs.declared.state.Ledger.{Ledger}
 use Rattle.refusals.specs.declared.refusal.Refusal.{Refusal}
 use Rattle.sheet.specs.Told.{Stands}
 use Rattle.sheet.specs.declared.state.Sheet.{Sheet}
 
-pub opened_ledger : (first days points unaccounted : ℕ) (intervals : Vec ℕ Global) (places : Vec (Option Reading) Global) (r : Result Ledger Unopened) (l : Ledger) → r ≡ Ok l
-    → OpenedAs first days points unaccounted intervals places r → (m : Meaning) (u : ℕ → Meaning)
-    → Follows (setting_of first days points unaccounted (vec_len places) m u) [] l
-opened_ledger first days points unaccounted intervals places r l is opened = (subst (OpenedAs first days points unaccounted intervals places) is opened).1
+pub opened_ledger : (q : OpeningRequest) (lists : Lists) (r : Result Ledger (Unopened Lists)) (l : Ledger) → r ≡ Ok l → OpenedAs q lists r → (m : Meaning) (u : ℕ → Meaning) → Follows (setting_of q (vec_len lists.places) m u) [] l
+opened_ledger q lists r l is opened = (subst (OpenedAs q lists) is opened).1
 
 -- and what lies beyond the book's days in its interval list is as it was
-pub opened_beyond : (first days points unaccounted : ℕ) (intervals : Vec ℕ Global) (places : Vec (Option Reading) Global) (r : Result Ledger Unopened) (l : Ledger) → r ≡ Ok l
-    → OpenedAs first days points unaccounted intervals places r → l.opening.days ≡ days → beyond_days l ≡ drop (days * meters) (vec_items intervals)
-opened_beyond first days points unaccounted intervals places r l is opened many =
-    ap (λ (n : ℕ). drop (n * meters) (vec_items l.intervals)) many ∙ (subst (OpenedAs first days points unaccounted intervals places) is opened).2
+pub opened_beyond : (q : OpeningRequest) (lists : Lists) (r : Result Ledger (Unopened Lists)) (l : Ledger) → r ≡ Ok l → OpenedAs q lists r → l.opening.days ≡ q.days → beyond_days l ≡ drop (q.days * meters) (vec_items lists.intervals)
+opened_beyond q lists r l is opened many =
+    ap (λ (n : ℕ). drop (n * meters) (vec_items l.intervals)) many ∙ (subst (OpenedAs q lists) is opened).2
 
 pub opened_sheet : (days points : ℕ) (figures : Vec ℕ Global) (r : Result Sheet (Vec ℕ Global)) (b : Sheet) → r ≡ Ok b
     → MatchResult r (λ b. (s : Setting) → s.days ≡ days → s.points ≡ points → Stands s (drop (days * points) (vec_items figures)) [] b) (λ list. list ≡ figures)

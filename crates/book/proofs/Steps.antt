@@ -1,9 +1,10 @@
 -- One call: its answer, and what is followed after it. Assumes nothing.
-use Rattle.std.proofs.Common.{◌≡◌, ℕ, false, ◌∷◌, Some, None, Option, Result, sym, refl, ap, ◌∙◌, subst, arith}
+use Rattle.std.proofs.Common.{◌≡◌, ℕ, false, ◌∷◌, Some, None, Ok, Err, Option, Result, MatchResult, sym, refl, ap, ◌∙◌, subst, arith}
+use Rattle.std.specs.Result.{IsOkAnd}
 use Rattle.std.proofs.lemmas.Bool.{true≢false}
 use Rattle.std.specs.Option.{option_or}
 use Rattle.estimators.specs.Meaning.{Meaning}
-use Rattle.histories.specs.Calls.{Lawful, entry_of, named_by, refusal}
+use Rattle.histories.specs.Calls.{Lawful, entry_of, named_by, place, refusal}
 use Rattle.histories.specs.Figures.{under_count}
 use Rattle.histories.specs.History.{History, Setting, count_in, count_of}
 use Rattle.histories.specs.declared.call.Call.{Call}
@@ -15,8 +16,9 @@ use Rattle.ledger.specs.declared.state.Ledger.{Ledger}
 use Rattle.refusals.specs.Numbers.{number_of, day_named}
 use Rattle.refusals.specs.declared.refusal.Refusal.{Refusal}
 use Rattle.sheet.specs.Told.{Estimates, Stands, Told}
-use Rattle.book.specs.Follows.{Beyond, Entered, Follows}
-use Rattle.book.specs.Replies.{Reply, accepted, after, answer, granted, is_count, lengthened, refused, told, unless_refused}
+use Rattle.book.specs.Follows.{Answers, Beyond, Entered, Follows}
+use Rattle.book.specs.Replies.{Reply, accepted, after, answer, granted, is_count, lengthened, refused, reply, says, told, unless_refused}
+use Rattle.book.specs.declared.answer.Answer.{Answer}
 use Rattle.book.specs.declared.book.Book.{Book}
 
 module _ (s : Setting) (h : History) (c : Call) where
@@ -94,7 +96,7 @@ no_count_entry s (Enrol point retailer start) none d = refl
 no_count_entry s (EnterGate date energy_in energy_out) none d = refl
 no_count_entry s (EnterInterval date meter energy) none d = refl
 no_count_entry s (EnterDegreeDays date count) none d = absurd (true≢false none)
-no_count_entry s (EnterReading point start end energy type) none d = refl
+no_count_entry s (EnterReading delivery) none d = refl
 no_count_entry s (AskFigure point date) none d = refl
 no_count_entry s (AskDay date) none d = refl
 no_count_entry s (AskRetailer retailer date) none d = refl
@@ -109,7 +111,7 @@ entry_granted s h (Enrol point retailer start) e is = refl
 entry_granted s h (EnterGate date energy_in energy_out) e is = refl
 entry_granted s h (EnterInterval date meter energy) e is = refl
 entry_granted s h (EnterDegreeDays date count) e is = refl
-entry_granted s h (EnterReading point start end energy type) e is = refl
+entry_granted s h (EnterReading delivery) e is = refl
 entry_granted s h (AskFigure point date) e is = let z : ◌≡◌ {A = ℕ} 0 1 = cc in absurd (omega arith)
 entry_granted s h (AskDay date) e is = let z : ◌≡◌ {A = ℕ} 0 1 = cc in absurd (omega arith)
 entry_granted s h (AskRetailer retailer date) e is = let z : ◌≡◌ {A = ℕ} 0 1 = cc in absurd (omega arith)
@@ -126,7 +128,38 @@ ledger_follows {s} {rest} {h} f entries beyond sheets = record {
   weather = f.weather;
 }
 
+-- a question leaves the history
+pub asked_stays : (h : History) (o : Option ℕ) → lengthened o None h ≡ h
+asked_stays h None = refl
+asked_stays h (Some n) = refl
+
+-- what a call gives, made an answer, says what the call does
+pub mapped : {X : Type 0} {P : X → Answer → Type 0} (v : X → Reply) (r : Result X Refusal) (a : Result Answer Refusal) → ((x : X) (y : Answer) → P x y → says y ≡ v x) → MatchResult r (λ x. IsOkAnd a (P x)) (λ e. a ≡ Err e) → reply a ≡ told v r
+mapped v (Ok x) (Ok y) each cases = each x y cases
+mapped v (Ok x) (Err e) each cases = absurd cases
+mapped v (Err e) a each cases = ap (told says) cases
+
 -- A call that an entry answers is answered as the law says, and what it leaves is followed.
-pub entry_served : {c : Call} {r : Result (Unit {0}) Refusal} {b b' : Book} {m m' : Meaning} {u u' : ℕ → Meaning} (s : Setting) (rest : Beyond) (h : History) (a : Reply)
-    → Entered c r b m u b' m' u' → a ≡ told (λ _. accepted) r → Follows s rest h b m u → (a ≡ answer s h c) × Follows s rest (after s h c) b' m' u'
-entry_served s rest h a entered says f = let done = entered.law s rest h f in (says ∙ done.0, done.1)
+pub entry_served : {c : Call} {r : Result (Unit {0}) Refusal} {b b' : Book} {m m' : Meaning} {u u' : ℕ → Meaning} {P : Unit {0} → Answer → Type 0} (s : Setting) (rest : Beyond) (h : History) (a : Result Answer Refusal)
+    → Entered c r b m u b' m' u' → ((x : Unit {0}) (y : Answer) → P x y → says y ≡ accepted) → MatchResult r (λ x. IsOkAnd a (P x)) (λ e. a ≡ Err e) → Follows s rest h b m u → (reply a ≡ answer s h c) × Follows s rest (after s h c) b' m' u'
+entry_served {r = r} s rest h a entered each cases f = let done = entered.law s rest h f in (mapped (λ _. accepted) r a each cases ∙ done.0, done.1)
+
+-- A question is answered as the law says, and leaves what is followed.
+pub question_served : {X : Type 0} {v : X → Reply} {c : Call} {r : Result X Refusal} {b : Book} {m : Meaning} {u : ℕ → Meaning} {P : X → Answer → Type 0} (s : Setting) (rest : Beyond) (h : History) (a : Result Answer Refusal)
+    → Answers c v r b m u → entry_of s c ≡ None → ((x : X) (y : Answer) → P x y → says y ≡ v x) → MatchResult r (λ x. IsOkAnd a (P x)) (λ e. a ≡ Err e) → Follows s rest h b m u → (reply a ≡ answer s h c) × Follows s rest (after s h c) b m u
+question_served {v = v} {c = c} {r = r} {b = b} {m = m} {u = u} s rest h a answers asks each cases f =
+    (mapped v r a each cases ∙ answers.law s rest h f, subst (λ x. Follows s rest x b m u) (sym (ap (λ o. lengthened (refusal s h c) o h) asks ∙ asked_stays h (refusal s h c))) f)
+
+-- A question that the ledger refuses is answered so.
+pub question_refused : {X : Type 0} {c : Call} {v : X → Reply} {b : Book} {m : Meaning} {u : ℕ → Meaning} (e : Refusal)
+    → ((s : Setting) (h : History) → ledgers.Follows s h b.ledger → (refusal s h c ≡ Some (number_of e)) × (day_named e ≡ named_by s h c (number_of e))) → Answers c v (Err e) b m u
+question_refused {c = c} e judged = record {
+  law = λ s rest h f. let refused = judged s h f.entries in refusal_answers s h c e refused.0 refused.1;
+}
+
+-- A question that the ledger grants is answered by what its day gives.
+pub question_granted : {X : Type 0} {c : Call} {v : X → Reply} {b : Book} {m : Meaning} {u : ℕ → Meaning} (date day : ℕ) (r : Result X Refusal) → ((s : Setting) (h : History) → ledgers.Follows s h b.ledger → (refusal s h c ≡ None) × (day ≡ place s date))
+    → ((s : Setting) (rest : Beyond) (h : History) → Follows s rest h b m u → refusal s h c ≡ None → day ≡ place s date → told v r ≡ granted s h c) → Answers c v r b m u
+question_granted {c = c} date day r judged gives = record {
+  law = λ s rest h f. let granted = judged s h f.entries in gives s rest h f granted.0 granted.1 ∙ granted_answers s h c granted.0;
+}

@@ -36,13 +36,13 @@ pub record Follows (s : Setting) (rest : Beyond) (h : History) (b : Book) (m : M
 pub record Entered (c : Call) (r : Result (Unit {0}) Refusal) (b : Book) (m : Meaning) (u : ℕ → Meaning) (b' : Book) (m' : Meaning) (u' : ℕ → Meaning) : Type 0 where
   pub law : (s : Setting) (rest : Beyond) (h : History) → Follows s rest h b m u → (told (λ _. accepted) r ≡ answer s h c) × Follows s rest (after s h c) b' m' u'
 
+-- an entry beside an estimator that stays as it is
+abbrev pub EnteredBeside : Call → Result (Unit {0}) Refusal → Book → Book → Meaning → (ℕ → Meaning) → Type 0
+EnteredBeside c r b b' m u = Entered c r b m u b' m u
+
 -- a question: whatever was followed, the answer is the law's
 pub record Answers {X : Type 0} (c : Call) (says : X → Reply) (r : Result X Refusal) (b : Book) (m : Meaning) (u : ℕ → Meaning) : Type 0 where
   pub law : (s : Setting) (rest : Beyond) (h : History) → Follows s rest h b m u → told says r ≡ answer s h c
-
--- the ledger of a book has judged a question about a date
-pub record Judged (c : Call) (date : ℕ) (r : Result ℕ Refusal) (b : Book) : Type 0 where
-  pub law : (s : Setting) (h : History) → ledgers.Follows s h b.ledger → ledgers.Asked s h c date r
 
 -- a refused entry leaves the book as it was
 pub record BookLeft (r : Result (Unit {0}) Refusal) (b b' : Book) : Type 0 where

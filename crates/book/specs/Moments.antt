@@ -43,9 +43,9 @@ Moves s h (EnterInterval date meter energy) =
 Moves s h (EnterDegreeDays date count) =
     ((d : ℕ) → (d ≢ place s date) → SameDay s h (after s h (EnterDegreeDays date count)) d)
     × ((p : ℕ) → 1 ≤ p → estimated h p (place s date) ≡ false → figure s (after s h (EnterDegreeDays date count)) p (place s date) ≡ figure s h p (place s date))
-Moves s h (EnterReading point start end energy type) =
-    ((d : ℕ) → (d < place s start) ⊎ (place s end ≤ d) → SameDay s h (after s h (EnterReading point start end energy type)) d)
-    × ((p d : ℕ) → 1 ≤ p → (p ≢ point) → estimated h p d ≡ false → figure s (after s h (EnterReading point start end energy type)) p d ≡ figure s h p d)
+Moves s h (EnterReading delivery) =
+    ((d : ℕ) → (d < place s delivery.start) ⊎ (place s delivery.end ≤ d) → SameDay s h (after s h (EnterReading delivery)) d)
+    × ((p d : ℕ) → 1 ≤ p → (p ≢ delivery.point) → estimated h p d ≡ false → figure s (after s h (EnterReading delivery)) p d ≡ figure s h p d)
 Moves s h (AskFigure point date) = after s h (AskFigure point date) ≡ h
 Moves s h (AskDay date) = after s h (AskDay date) ≡ h
 Moves s h (AskRetailer retailer date) = after s h (AskRetailer retailer date) ≡ h

@@ -12,9 +12,9 @@ use Rattle.refusals.specs.declared.refusal.Refusal.{Refusal}
 use Rattle.sheet.specs.Asking.{account}
 use Rattle.sheet.specs.declared.day_figures.DayFigures.{DayFigures}
 use Rattle.book.specs.declared.answer.Answer.{Answer}
-use Rattle.book.specs.declared.answer.Answer.TheVariants.{Accepted, Figure, Day, RetailerSum, Refused}
+use Rattle.book.specs.declared.answer.Answer.TheVariants.{Accepted, Figure, Day, RetailerSum}
 
--- an answer in the rules' words: a refusal by its number, with the day that it names
+-- what a call can be answered, in the rules' words: a refusal by its number, with the day that it names
 pub data Reply : Type 0 where
   accepted : Reply
   figure_is : ℕ → Reply
@@ -22,25 +22,29 @@ pub data Reply : Type 0 where
   sum_is : ℕ → Reply
   refused : ℕ → Option ℕ → Reply
 
-abbrev pub reply : Answer → Reply
-reply Accepted = accepted
-reply (Figure x) = figure_is x
-reply (Day figures) = day_is figures
-reply (RetailerSum x) = sum_is x
-reply (Refused e) = refused (number_of e) (day_named e)
-
--- an answer that leaves book and estimator as they were: a refusal, or the answer to a question
-abbrev pub leaves : Answer → Bool
-leaves Accepted = false
-leaves (Figure x) = true
-leaves (Day figures) = true
-leaves (RetailerSum x) = true
-leaves (Refused e) = true
-
 -- the answer of one call
 abbrev pub told : {X : Type 0} → (X → Reply) → Result X Refusal → Reply
 told says (Ok x) = says x
 told says (Err e) = refused (number_of e) (day_named e)
+
+-- what an answer says
+abbrev pub says : Answer → Reply
+says Accepted = accepted
+says (Figure x) = figure_is x
+says (Day figures) = day_is figures
+says (RetailerSum x) = sum_is x
+
+-- what a call was answered, in the rules' words
+abbrev pub reply : Result Answer Refusal → Reply
+reply r = told says r
+
+-- an answer that leaves book and estimator as they were: a refusal, or the answer to a question
+abbrev pub leaves : Result Answer Refusal → Bool
+leaves (Ok Accepted) = false
+leaves (Ok (Figure x)) = true
+leaves (Ok (Day figures)) = true
+leaves (Ok (RetailerSum x)) = true
+leaves (Err e) = true
 
 -- what a call that is not refused is answered
 abbrev pub granted : Setting → History → Call → Reply
@@ -48,7 +52,7 @@ granted s h (Enrol point retailer start) = accepted
 granted s h (EnterGate date energy_in energy_out) = accepted
 granted s h (EnterInterval date meter energy) = accepted
 granted s h (EnterDegreeDays date count) = accepted
-granted s h (EnterReading point start end energy type) = accepted
+granted s h (EnterReading delivery) = accepted
 granted s h (AskFigure point date) = figure_is (figure s h point (place s date))
 granted s h (AskDay date) = day_is (account s h (place s date) (unwrap_or (load s h (place s date)) 0))
 granted s h (AskRetailer retailer date) = sum_is (retailer_sum s h retailer (place s date))
@@ -59,7 +63,7 @@ is_count (Enrol point retailer start) = false
 is_count (EnterGate date energy_in energy_out) = false
 is_count (EnterInterval date meter energy) = false
 is_count (EnterDegreeDays date count) = true
-is_count (EnterReading point start end energy type) = false
+is_count (EnterReading delivery) = false
 is_count (AskFigure point date) = false
 is_count (AskDay date) = false
 is_count (AskRetailer retailer date) = false

@@ -1,15 +1,8 @@
 ghost use Rattle.std.specs.Prelude.{◌≡◌};
 
 use super::book::Book;
+use super::lists::Lists;
 use histories::Reading;
-
-// The three lists of a closed book.
-#[derive(Drop)]
-pub struct Lists {
-    pub sheet: Vec<u64>,
-    pub intervals: Vec<u64>,
-    pub readings: Vec<Option<Reading>>,
-}
 
 impl Book {
     // The figures, day by day and by point, then what lies beyond.

@@ -1,12 +1,10 @@
-use refusals::Refusal;
 use sheet::DayFigures;
 
-// What a call is answered.
-#[derive(Clone, Copy)]
+// What a call that is not refused is answered.
+#[derive(Clone, Copy, PartialEq, Eq, Debug)]
 pub enum Answer {
     Accepted,
     Figure(u64),
     Day(DayFigures),
     RetailerSum(u64),
-    Refused(Refusal),
 }

@@ -1,10 +1,10 @@
 ghost use Rattle.std.specs.Prelude.{◌≡◌, OnErr};
 ghost use Rattle.histories.specs.declared.call.Call.TheVariants.{Enrol, EnterDegreeDays, EnterGate, EnterInterval, EnterReading};
-ghost use Rattle.book.specs.Follows.{BookLeft, Entered};
+ghost use Rattle.book.specs.Follows.{BookLeft, Entered, EnteredBeside};
 
 use super::book::Book;
 use estimators::{Estimator, Weather};
-use readings::ReadingType;
+use histories::Delivery;
 use refusals::Refusal;
 
 impl Book {
@@ -17,7 +17,7 @@ impl Book {
         start: u32,
     ) -> Result<(), Refusal>
         ensures refused { BookLeft result self.old self.new }
-        ensures law { Entered (Enrol point retailer start) result self.old (E.Estimator.meaning estimator.now) (E.Weather.under estimator.now) self.new (E.Estimator.meaning estimator.now) (E.Weather.under estimator.now) }
+        ensures law { EnteredBeside (Enrol point retailer start) result self.old self.new (E.Estimator.meaning estimator.now) (E.Weather.under estimator.now) }
     {
         let answer = self.ledger.enrol(point, retailer, start);
         self.take_in(estimator, answer)
@@ -32,7 +32,7 @@ impl Book {
         energy_out: u64,
     ) -> Result<(), Refusal>
         ensures refused { BookLeft result self.old self.new }
-        ensures law { Entered (EnterGate date energy_in energy_out) result self.old (E.Estimator.meaning estimator.now) (E.Weather.under estimator.now) self.new (E.Estimator.meaning estimator.now) (E.Weather.under estimator.now) }
+        ensures law { EnteredBeside (EnterGate date energy_in energy_out) result self.old self.new (E.Estimator.meaning estimator.now) (E.Weather.under estimator.now) }
     {
         let answer = self.ledger.enter_gate(date, energy_in, energy_out);
         self.take_in(estimator, answer)
@@ -47,7 +47,7 @@ impl Book {
         energy: u64,
     ) -> Result<(), Refusal>
         ensures refused { BookLeft result self.old self.new }
-        ensures law { Entered (EnterInterval date meter energy) result self.old (E.Estimator.meaning estimator.now) (E.Weather.under estimator.now) self.new (E.Estimator.meaning estimator.now) (E.Weather.under estimator.now) }
+        ensures law { EnteredBeside (EnterInterval date meter energy) result self.old self.new (E.Estimator.meaning estimator.now) (E.Weather.under estimator.now) }
     {
         let answer = self.ledger.enter_interval(date, meter, energy);
         self.take_in(estimator, answer)
@@ -71,18 +71,12 @@ impl Book {
     pub fn enter_reading<E: Weather>(
         &mut self,
         estimator: &E,
-        point: u32,
-        start: u32,
-        end: u32,
-        energy: i64,
-        reading_type: ReadingType,
+        delivery: Delivery,
     ) -> Result<(), Refusal>
         ensures refused { BookLeft result self.old self.new }
-        ensures law { Entered (EnterReading point start end energy reading_type) result self.old (E.Estimator.meaning estimator.now) (E.Weather.under estimator.now) self.new (E.Estimator.meaning estimator.now) (E.Weather.under estimator.now) }
+        ensures law { EnteredBeside (EnterReading delivery) result self.old self.new (E.Estimator.meaning estimator.now) (E.Weather.under estimator.now) }
     {
-        let answer = self
-            .ledger
-            .enter_reading(point, start, end, energy, reading_type);
+        let answer = self.ledger.enter_reading(delivery);
         self.take_in(estimator, answer)
     }
 }

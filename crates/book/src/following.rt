@@ -14,6 +14,7 @@ use super::book::Book;
 use estimators::{Estimator, Weather};
 use histories::Entry;
 use refusals::Refusal;
+use sheet::Sources;
 
 impl Book {
     // Works out anew what an entry can move, once the ledger holds it.
@@ -21,19 +22,19 @@ impl Book {
         ensures ledger { self.new.ledger ≡ self.old.ledger }
         ensures law { (s : Setting) (rest : List ℕ) (h : History) → Lawful s (entry ∷ h) → Follows s (entry ∷ h) self.old.ledger → Estimates s (entry ∷ h) (E.Estimator.meaning estimator.now) → Stands s rest h self.old.sheet → Stands s rest (entry ∷ h) self.new.sheet }
     {
+        let sources = Sources {
+            ledger: &self.ledger,
+            estimator,
+        };
         match entry {
             Entry::Enrolled { point, enrolment } => {
-                self.sheet
-                    .start_point(&self.ledger, estimator, point, enrolment);
+                self.sheet.start_point(&sources, point, enrolment);
             }
-            Entry::GateEntered { day, .. } => self.sheet.reload(&self.ledger, estimator, day),
-            Entry::IntervalEntered { day, .. } => self.sheet.reload(&self.ledger, estimator, day),
-            Entry::DegreeDaysEntered { day, .. } => {
-                self.sheet.take_count(&self.ledger, estimator, day)
+            Entry::GateEntered { day, .. } | Entry::IntervalEntered { day, .. } => {
+                self.sheet.reload(&sources, day)
             }
-            Entry::ReadingTaken(reading) => {
-                self.sheet.take_reading(&self.ledger, estimator, &reading)
-            }
+            Entry::DegreeDaysEntered { day, .. } => { self.sheet.take_count(&sources, day) }
+            Entry::ReadingTaken(reading) => { self.sheet.take_reading(&sources, &reading) }
         }
     }
 
@@ -44,7 +45,7 @@ impl Book {
         answer: Result<Entry, Refusal>,
     ) -> Result<(), Refusal>
         ensures refused { (b : Book) → books.LedgerLeft answer b self.old → books.BookLeft result b self.new }
-        ensures law { (c : Call) (b : Book) → books.LedgerAnswered c answer b self.old → books.Entered c result b (E.Estimator.meaning estimator.now) (E.Weather.under estimator.now) self.new (E.Estimator.meaning estimator.now) (E.Weather.under estimator.now) }
+        ensures law { (c : Call) (b : Book) → books.LedgerAnswered c answer b self.old → books.EnteredBeside c result b self.new (E.Estimator.meaning estimator.now) (E.Weather.under estimator.now) }
     {
         let entry = answer?;
         self.follow(estimator, entry);

@@ -6,12 +6,13 @@ mod answer;
 mod book;
 mod entries;
 mod following;
+mod lists;
 mod open;
 mod questions;
 mod serve;
 
-pub use access::Lists;
 pub use answer::Answer;
 pub use book::Book;
-pub use open::Unopened;
+pub use ledger::{OpeningRequest, Unopened};
+pub use lists::Lists;
 pub use serve::Served;

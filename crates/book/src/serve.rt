@@ -5,56 +5,15 @@ ghost use Rattle.histories.specs.History.{History, Setting};
 ghost use Rattle.book.specs.Follows.{Beyond, Follows};
 ghost use Rattle.book.specs.Law.{Law};
 ghost use Rattle.book.specs.Opened.{Opens, rest_of, setting};
-ghost use Rattle.book.specs.Replies.{accepted, after, answer, day_is, figure_is, leaves, reply, sum_is, told};
+ghost use Rattle.book.specs.Replies.{after, answer, leaves, reply};
 
 use super::answer::Answer;
 use super::book::Book;
-use super::open::Unopened;
+use super::lists::Lists;
 use estimators::{Estimator, Weather};
-use histories::{Call, Reading};
+use histories::Call;
+use ledger::{OpeningRequest, Unopened};
 use refusals::Refusal;
-use sheet::DayFigures;
-
-// The answer to an entry.
-fn entered(outcome: Result<(), Refusal>) -> Answer
-    ensures reply { reply result ≡ told (λ _. accepted) outcome }
-    ensures leaves { leaves result ≡ true → is_ok outcome ≡ false }
-{
-    match outcome {
-        Ok(()) => Answer::Accepted,
-        Err(refusal) => Answer::Refused(refusal),
-    }
-}
-
-// The answer to the question for a figure.
-fn figure_answered(outcome: Result<u64, Refusal>) -> Answer
-    ensures { reply result ≡ told figure_is outcome }
-{
-    match outcome {
-        Ok(figure) => Answer::Figure(figure),
-        Err(refusal) => Answer::Refused(refusal),
-    }
-}
-
-// The answer to the question for a day.
-fn day_answered(outcome: Result<DayFigures, Refusal>) -> Answer
-    ensures { reply result ≡ told day_is outcome }
-{
-    match outcome {
-        Ok(figures) => Answer::Day(figures),
-        Err(refusal) => Answer::Refused(refusal),
-    }
-}
-
-// The answer to the question for a retailer's sum.
-fn sum_answered(outcome: Result<u64, Refusal>) -> Answer
-    ensures { reply result ≡ told sum_is outcome }
-{
-    match outcome {
-        Ok(sum) => Answer::RetailerSum(sum),
-        Err(refusal) => Answer::Refused(refusal),
-    }
-}
 
 // A book that was opened, and whether there was room for the answers to all calls.
 #[derive(Drop)]
@@ -65,7 +24,7 @@ pub struct Served {
 
 impl Book {
     // One call, whichever it is.
-    fn serve_one<E: Weather>(&mut self, estimator: &mut E, call: Call) -> Answer
+    fn serve_one<E: Weather>(&mut self, estimator: &mut E, call: Call) -> Result<Answer, Refusal>
         ensures kept { leaves result ≡ true → (self.new ≡ self.old) × (estimator.new ≡ estimator.old) }
         ensures law { (s : Setting) (rest : Beyond) (h : History) → Follows s rest h self.old (E.Estimator.meaning estimator.old) (E.Weather.under estimator.old) → (reply result ≡ answer s h call) × Follows s rest (after s h call) self.new (E.Estimator.meaning estimator.new) (E.Weather.under estimator.new) }
     {
@@ -74,31 +33,34 @@ impl Book {
                 point,
                 retailer,
                 start,
-            } => entered(self.enrol(estimator, point, retailer, start)),
+            } => self
+                .enrol(estimator, point, retailer, start)
+                .map(|()| Answer::Accepted),
             Call::EnterGate {
                 date,
                 energy_in,
                 energy_out,
-            } => entered(self.enter_gate(estimator, date, energy_in, energy_out)),
+            } => self
+                .enter_gate(estimator, date, energy_in, energy_out)
+                .map(|()| Answer::Accepted),
             Call::EnterInterval {
                 date,
                 meter,
                 energy,
-            } => entered(self.enter_interval(estimator, date, meter, energy)),
+            } => self
+                .enter_interval(estimator, date, meter, energy)
+                .map(|()| Answer::Accepted),
             Call::EnterDegreeDays { date, count } => {
-                entered(self.enter_degree_days(estimator, date, count))
+                self.enter_degree_days(estimator, date, count)
+                    .map(|()| Answer::Accepted)
             }
-            Call::EnterReading {
-                point,
-                start,
-                end,
-                energy,
-                reading_type,
-            } => { entered(self.enter_reading(estimator, point, start, end, energy, reading_type)) }
-            Call::AskFigure { point, date } => figure_answered(self.ask_figure(point, date)),
-            Call::AskDay { date } => day_answered(self.ask_day(estimator, date)),
+            Call::EnterReading(delivery) => self
+                .enter_reading(estimator, delivery)
+                .map(|()| Answer::Accepted),
+            Call::AskFigure { point, date } => self.ask_figure(point, date).map(Answer::Figure),
+            Call::AskDay { date } => self.ask_day(estimator, date).map(Answer::Day),
             Call::AskRetailer { retailer, date } => {
-                sum_answered(self.ask_retailer(retailer, date))
+                self.ask_retailer(retailer, date).map(Answer::RetailerSum)
             }
         }
     }
@@ -108,7 +70,7 @@ impl Book {
         &mut self,
         estimator: &mut E,
         calls: &[Call],
-        answers: &mut [Answer],
+        answers: &mut [Result<Answer, Refusal>],
     ) -> Result<(), Refusal>
         ensures answer { AcceptedWhen result (nat_le (length calls.now) (length answers.old)) 15 }
         ensures refused { OnErr result ((self.new ≡ self.old) × (estimator.new ≡ estimator.old) × (answers.new ≡ answers.old)) }
@@ -119,6 +81,7 @@ impl Book {
         if answers.len() < calls.len() {
             return Err(Refusal::ListTooShort);
         }
+        // By place: nothing is known of a slice's values once `iter_mut` has gone over it in a `zip`.
         for (i, call) in calls.iter().enumerate() {
             answers[i] = self.serve_one(estimator, *call);
         }
@@ -127,25 +90,20 @@ impl Book {
 
     // Opens a book and serves calls on it.
     pub fn open_and_serve<E: Weather>(
-        first: u32,
-        days: u32,
-        points: u32,
-        unaccounted: u64,
-        sheet: Vec<u64>,
-        intervals: Vec<u64>,
-        readings: Vec<Option<Reading>>,
+        request: OpeningRequest,
+        lists: Lists,
         estimator: &mut E,
         calls: &[Call],
-        answers: &mut [Answer],
-    ) -> Result<Served, Unopened>
-        ensures opened { Opens first days points unaccounted sheet intervals readings result }
-        ensures refused { IfErr result (λ e. (e.sheet ≡ sheet) × (e.intervals ≡ intervals) × (e.readings ≡ readings) × (estimator.new ≡ estimator.old) × (answers.new ≡ answers.old)) }
+        answers: &mut [Result<Answer, Refusal>],
+    ) -> Result<Served, Unopened<Lists>>
+        ensures opened { Opens request lists result }
+        ensures refused { IfErr result (λ e. (e.lists ≡ lists) × (estimator.new ≡ estimator.old) × (answers.new ≡ answers.old)) }
         ensures served { IfOk result (λ served. AcceptedWhen served.outcome (nat_le (length calls.now) (length answers.old)) 15) }
-        ensures unserved { IfOk result (λ served. is_ok served.outcome ≡ false → (estimator.new ≡ estimator.old) × (answers.new ≡ answers.old) × Follows (setting first days points unaccounted readings (E.Estimator.meaning estimator.old) (E.Weather.under estimator.old)) (rest_of days points sheet intervals) [] served.book (E.Estimator.meaning estimator.old) (E.Weather.under estimator.old)) }
+        ensures unserved { IfOk result (λ served. is_ok served.outcome ≡ false → (estimator.new ≡ estimator.old) × (answers.new ≡ answers.old) × Follows (setting request lists (E.Estimator.meaning estimator.old) (E.Weather.under estimator.old)) (rest_of request lists) [] served.book (E.Estimator.meaning estimator.old) (E.Weather.under estimator.old)) }
         ensures rest { OnOk result (drop (length calls.now) answers.new ≡ drop (length calls.now) answers.old) }
-        ensures law { IfOk result (λ served. is_ok served.outcome ≡ true → Law (setting first days points unaccounted readings (E.Estimator.meaning estimator.old) (E.Weather.under estimator.old)) (rest_of days points sheet intervals) [] calls.now answers.new served.book (E.Estimator.meaning estimator.new) (E.Weather.under estimator.new)) }
+        ensures law { IfOk result (λ served. is_ok served.outcome ≡ true → Law (setting request lists (E.Estimator.meaning estimator.old) (E.Weather.under estimator.old)) (rest_of request lists) [] calls.now answers.new served.book (E.Estimator.meaning estimator.new) (E.Weather.under estimator.new)) }
     {
-        let mut book = Book::open(first, days, points, unaccounted, sheet, intervals, readings)?;
+        let mut book = Book::open(request, lists)?;
         let outcome = book.serve(estimator, calls, answers);
         Ok(Served { book, outcome })
     }

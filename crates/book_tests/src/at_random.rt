@@ -1,16 +1,17 @@
 // Three hundred lists of calls drawn at random, each on a book of its own beside the weather estimator, and every answer
 // and figure held to a recomputation from the accepted calls.
 use super::calls::{
-    Case, Reply, begins, day, degree_days, enrol, figure, gate, interval, opened, retailer,
+    Case, begins, day, degree_days, enrol, figure, gate, interval, opened, reading, retailer,
     serve_table,
 };
-use super::recomputed::{Area, Count, Enrolled, Gate, Heating, Metered, Taken, Worked};
-use book::Book;
+use super::recomputed::{Area, Count, Enrolled, Gate, Metered, Taken, Worked};
+use book::{Answer, Book, OpeningRequest};
 use by_weather::{ByWeather, Factors};
 use estimators::Weather;
 use histories::Call;
 use readings::ReadingType;
 use refusals::Refusal;
+use sheet::DayFigures;
 use std::alloc::{AllocError, Global};
 use std::process::Abort;
 use std::test::Fail;
@@ -36,7 +37,7 @@ struct Draws {
 }
 
 // A call with days for dates.
-#[derive(Clone, Copy)]
+#[derive(Clone, Copy, PartialEq, Eq, Debug)]
 enum Step {
     Enrol(Enrolled),
     Gate(Gate),
@@ -53,6 +54,7 @@ struct Met {
     scaled: u64,
     exceeded: u64,
     missing: u64,
+    // By number: refusals that name a day differ day by day.
     refused: [u64; 16],
 }
 
@@ -78,10 +80,11 @@ impl Draws {
     // The end of an accepted reading, or the first day.
     fn old_end(&mut self, area: &Area) -> u32 {
         let i = self.below(16) as usize;
-        match area.readings.iter().rev().nth(i / 2) {
-            Some(reading) => reading.end,
-            None => 0,
-        }
+        area.readings
+            .iter()
+            .rev()
+            .nth(i / 2)
+            .map_or(0, |reading| reading.end)
     }
 
     fn reading(&mut self, area: &Area, size: u32) -> Taken {
@@ -186,7 +189,7 @@ impl Draws {
         for _ in 0..points {
             // Whole half megajoules, so that some estimates lie halfway.
             let halves = self.below(size.saturating_mul(2).min(200_000));
-            let factors = Heating {
+            let factors = Factors {
                 base_load: u64::from(halves).saturating_mul(500),
                 sensitivity: match self.below(4) {
                     0 => 0,
@@ -224,17 +227,9 @@ impl Draws {
 // The weather estimator as it is at the opening.
 fn weather(area: &Area) -> Result<ByWeather, Fail> {
     let mut weather = ByWeather::new();
-    let mut point = 0u32;
-    for heating in area.heating.iter() {
-        point = point.saturating_add(1);
-        if let Some(heating) = heating {
-            weather.enter_factors(
-                point,
-                Factors {
-                    base_load: heating.base_load,
-                    sensitivity: heating.sensitivity,
-                },
-            )?;
+    for (point, heating) in (1..=area.points).zip(area.heating.iter()) {
+        if let Some(factors) = heating {
+            weather.enter_factors(point, *factors)?;
         }
     }
     for count in area.counts_at_opening.iter() {
@@ -250,55 +245,51 @@ impl Step {
             Step::Gate(told) => gate(date(told.day), told.energy_in, told.energy_out),
             Step::Interval(told) => interval(date(told.day), told.meter, told.energy),
             Step::DegreeDays(told) => degree_days(date(told.day), told.count),
-            Step::Reading(told) => Call::EnterReading {
-                point: told.point,
-                start: date(told.start),
-                end: date(told.end),
-                energy: told.energy,
-                reading_type: told.reading_type,
-            },
+            Step::Reading(told) => reading(
+                told.point,
+                date(told.start),
+                date(told.end),
+                told.energy,
+                told.reading_type,
+            ),
         }
     }
 }
 
-// Why a call of a day is refused by its numbers or its day.
-fn within(area: &Area, numbers: bool, day: u32) -> Option<Refusal> {
+// Judges a call of a day by its numbers and its day.
+fn within(area: &Area, numbers: bool, day: u32) -> Result<(), Refusal> {
     if !numbers {
-        Some(Refusal::BeyondLimits)
-    } else if day >= area.days {
-        Some(Refusal::OutsideBook)
-    } else {
-        None
+        return Err(Refusal::BeyondLimits);
     }
+    if day >= area.days {
+        return Err(Refusal::OutsideBook);
+    }
+    Ok(())
 }
 
-// Why a call is refused by the rules, or none.
-fn judge(heap: Global, area: &Area, step: Step) -> Result<Option<Refusal>, AllocError> {
-    Ok(match step {
+// Judges a call by the rules, beside the readings that are held.
+fn judge(area: &Area, held: &[Taken], step: Step) -> Result<(), Refusal> {
+    match step {
         Step::Enrol(told) => {
-            let numbers = 1 <= told.point
-                && told.point <= area.points
-                && 1 <= told.retailer
-                && told.retailer <= 16;
-            match within(area, numbers, told.start) {
-                Some(refusal) => Some(refusal),
-                None => match area.enrolment(told.point) {
-                    Some(_) => Some(Refusal::PointEnrolledAlready),
-                    None => None,
-                },
+            let numbers = (1..=area.points).contains(&told.point)
+                && (1..=16).contains(&told.retailer);
+            within(area, numbers, told.start)?;
+            if area.enrolment(told.point).is_some() {
+                return Err(Refusal::PointEnrolledAlready);
             }
+            Ok(())
         }
         Step::Gate(told) => {
             let numbers = told.energy_in <= 1_000_000_000 && told.energy_out <= 1_000_000_000;
             within(area, numbers, told.day)
         }
         Step::Interval(told) => {
-            let numbers = 1 <= told.meter && told.meter <= 32 && told.energy <= 100_000_000;
+            let numbers = (1..=32).contains(&told.meter) && told.energy <= 100_000_000;
             within(area, numbers, told.day)
         }
         Step::DegreeDays(told) => within(area, told.count <= 20_000, told.day),
-        Step::Reading(told) => area.judge_reading(heap, told, &DATES)?,
-    })
+        Step::Reading(told) => area.judge_reading(held, told, &DATES),
+    }
 }
 
 // Adds an accepted call.
@@ -314,18 +305,16 @@ fn take(area: &mut Area, step: Step) -> Result<(), AllocError> {
 }
 
 // The answer about a day.
-fn account(worked: &Worked, date: u32) -> Reply {
-    match worked.load {
-        None => Reply::Refused(Refusal::AskedDayWithoutLoad { date }),
-        Some(load) => Reply::Day([
-            load,
-            worked.supplied,
-            worked.generated,
-            worked.remainder,
-            worked.excess,
-            worked.missing,
-        ]),
-    }
+fn account(worked: &Worked, date: u32) -> Result<Answer, Refusal> {
+    let load = worked.load.ok_or(Refusal::AskedDayWithoutLoad { date })?;
+    Ok(Answer::Day(DayFigures {
+        load,
+        supplied: worked.supplied,
+        generated: worked.generated,
+        remainder: worked.remainder,
+        excess: worked.excess,
+        missing: worked.missing,
+    }))
 }
 
 // Adds the questions about a day, with their answers.
@@ -334,15 +323,13 @@ fn ask(area: &Area, worked: &Worked, asked: u32, table: &mut Vec<Case>) -> Resul
     table.push((day(date), account(worked, date)))?;
     for number in 1..5 {
         let sum = area.retailer_sum(worked, number);
-        table.push((retailer(number, date), Reply::RetailerSum(sum)))?;
+        table.push((retailer(number, date), Ok(Answer::RetailerSum(sum))))?;
     }
-    let mut point = 0u32;
-    for value in worked.figures.iter() {
-        point = point.saturating_add(1);
-        let due = match area.enrolment(point) {
-            Some(_) => Reply::Figure(*value),
-            None => Reply::Refused(Refusal::PointNotEnrolled),
-        };
+    for (point, value) in (1..=area.points).zip(worked.figures.iter()) {
+        let due = area
+            .enrolment(point)
+            .map(|_| Answer::Figure(*value))
+            .ok_or(Refusal::PointNotEnrolled);
         table.push((figure(point, date), due))?;
     }
     Ok(())
@@ -350,31 +337,21 @@ fn ask(area: &Area, worked: &Worked, asked: u32, table: &mut Vec<Case>) -> Resul
 
 // The places of a book hold the held readings, and no others.
 fn places_hold(
-    rt: &impl Abort,
-    heap: Global,
+    rt: &(impl Abort + AllocGlobal),
     at: &str,
     book: &Book,
     area: &Area,
 ) -> Result<(), Fail> {
-    let held = area.held(heap)?;
-    let mut taken = 0usize;
-    for place in book.readings() {
-        if place.is_some() {
-            taken = taken.saturating_add(1);
-        }
-    }
+    let held = area.held(rt.alloc())?;
+    let taken = book.readings().iter().flatten().count();
     assert_eq!(rt; taken, held.len(), "{at}: held readings");
     for due in held.iter() {
-        let mut found = false;
-        for place in book.readings() {
-            if let Some(reading) = place {
-                found = found
-                    || reading.point == due.point
-                        && reading.start == due.start
-                        && reading.end == due.end
-                        && reading.energy == due.energy.unsigned_abs();
-            }
-        }
+        let found = book.readings().iter().flatten().any(|reading| {
+            reading.point == due.point
+                && reading.start == due.start
+                && reading.end == due.end
+                && reading.energy == due.energy.unsigned_abs()
+        });
         assert!(rt; found, "{at}: a held reading");
     }
     Ok(())
@@ -414,9 +391,8 @@ impl Met {
     }
 
     fn add_refusal(&mut self, refusal: Refusal) {
-        let number = refusal.number() as usize;
-        if number < 16 {
-            self.refused[number] = self.refused[number].saturating_add(1);
+        if let Some(times) = self.refused.get_mut(usize::from(refusal.number())) {
+            *times = times.saturating_add(1);
         }
     }
 }
@@ -433,15 +409,13 @@ impl Bench {
     // Holds every figure, answer and list of the book to the recomputation.
     fn compare(
         &mut self,
-        rt: &impl Abort,
-        heap: Global,
+        rt: &(impl Abort + AllocGlobal),
         at: &str,
         met: &mut Met,
     ) -> Result<(), Fail> {
-        let due = all_due(heap, &self.area, met)?;
+        let due = all_due(rt.alloc(), &self.area, met)?;
         serve_table(
             rt,
-            heap,
             at,
             &mut self.book,
             &mut self.weather,
@@ -449,57 +423,52 @@ impl Bench {
         )?;
         begins(rt, at, self.book.sheet(), due.sheet.as_slice());
         begins(rt, at, self.book.intervals(), due.intervals.as_slice());
-        places_hold(rt, heap, at, &self.book, &self.area)
+        places_hold(rt, at, &self.book, &self.area)
     }
 
     // Serves a call, and holds its answer to the rules.
     fn tell(
         &mut self,
-        rt: &impl Abort,
-        heap: Global,
+        rt: &(impl Abort + AllocGlobal),
         at: &str,
         step: Step,
         met: &mut Met,
     ) -> Result<(), Fail> {
-        let refusal = judge(heap, &self.area, step)?;
-        let reply = match refusal {
-            Some(refusal) => Reply::Refused(refusal),
-            None => Reply::Accepted,
-        };
+        let held = self.area.held(rt.alloc())?;
+        let judged = judge(&self.area, held.as_slice(), step);
         serve_table(
             rt,
-            heap,
             at,
             &mut self.book,
             &mut self.weather,
-            &[(step.call(), reply)],
+            &[(step.call(), judged.map(|()| Answer::Accepted))],
         )?;
-        match refusal {
-            Some(refusal) => met.add_refusal(refusal),
-            None => {
+        match judged {
+            Ok(()) => {
                 met.accepted = met.accepted.saturating_add(1);
                 take(&mut self.area, step)?;
             }
+            Err(refusal) => met.add_refusal(refusal),
         }
         Ok(())
     }
 }
 
 // One list of calls. All is compared after each of them.
-fn run(rt: &impl Abort, heap: Global, list: u32, size: u32, met: &mut Met) -> Result<(), Fail> {
+fn run(rt: &(impl Abort + AllocGlobal), list: u32, size: u32, met: &mut Met) -> Result<(), Fail> {
+    let heap = rt.alloc();
     let mut draws = Draws {
         state: u64::from(list),
     };
     let area = draws.area(heap, size)?;
     let weather = weather(&area)?;
-    let book = opened(
-        heap,
-        date(0),
-        area.days,
-        area.points,
-        area.unaccounted,
-        area.places,
-    )?;
+    let request = OpeningRequest {
+        first_date: date(0),
+        days: area.days,
+        points: area.points,
+        unaccounted: area.unaccounted,
+    };
+    let book = opened(heap, request, area.places)?;
     let mut bench = Bench {
         book,
         weather,
@@ -508,8 +477,8 @@ fn run(rt: &impl Abort, heap: Global, list: u32, size: u32, met: &mut Met) -> Re
     for turn in 0..TURNS {
         let step = draws.step(&bench.area, turn, size);
         let at = format!(in heap; "list {list}, turn {turn}")?;
-        bench.tell(rt, heap, &at, step, met)?;
-        bench.compare(rt, heap, &at, met)?;
+        bench.tell(rt, &at, step, met)?;
+        bench.compare(rt, &at, met)?;
     }
     let held = bench.area.held(heap)?.len();
     let replaced = bench.area.readings.len().saturating_sub(held);
@@ -534,10 +503,11 @@ fn three_hundred_lists(rt: HostRuntime) -> Result<(), Fail> {
             2 => 20_000,
             _ => 10_000_000,
         };
-        run(&rt, rt.alloc(), list, size, &mut met)?;
+        run(&rt, list, size, &mut met)?;
     }
     for (number, times) in met.refused.iter().enumerate() {
-        if number == 3 || 5 <= number && number <= 13 {
+        // Beyond the limits, and from a day outside the book to no place for a reading.
+        if matches!(number, 3 | 5..=13) {
             assert!(rt; *times >= 100, "refused with {number}");
         }
     }

@@ -1,15 +1,16 @@
 // Calls by their shortest names, and a book that serves a table of them.
-use book::{Answer, Book};
+use book::{Answer, Book, Lists, OpeningRequest};
 use estimators::Weather;
-use histories::Call;
+use histories::{Call, Delivery};
 use readings::ReadingType;
 use refusals::Refusal;
+use sheet::DayFigures;
 use std::alloc::Global;
 use std::process::Abort;
 use std::test::Fail;
 
 // A call, and what it is to be answered.
-pub(crate) type Case = (Call, Reply);
+pub(crate) type Case = (Call, Result<Answer, Refusal>);
 
 pub(crate) fn enrol(point: u32, retailer: u32, start: u32) -> Call {
     Call::Enrol {
@@ -39,24 +40,28 @@ pub(crate) fn degree_days(date: u32, count: u32) -> Call {
     Call::EnterDegreeDays { date, count }
 }
 
-pub(crate) fn actual(point: u32, start: u32, end: u32, energy: i64) -> Call {
-    Call::EnterReading {
+pub(crate) fn reading(
+    point: u32,
+    start: u32,
+    end: u32,
+    energy: i64,
+    reading_type: ReadingType,
+) -> Call {
+    Call::EnterReading(Delivery {
         point,
         start,
         end,
         energy,
-        reading_type: ReadingType::Actual,
-    }
+        reading_type,
+    })
+}
+
+pub(crate) fn actual(point: u32, start: u32, end: u32, energy: i64) -> Call {
+    reading(point, start, end, energy, ReadingType::Actual)
 }
 
 pub(crate) fn estimate(point: u32, start: u32, end: u32, energy: i64) -> Call {
-    Call::EnterReading {
-        point,
-        start,
-        end,
-        energy,
-        reading_type: ReadingType::Estimated,
-    }
+    reading(point, start, end, energy, ReadingType::Estimated)
 }
 
 pub(crate) fn figure(point: u32, date: u32) -> Call {
@@ -71,71 +76,67 @@ pub(crate) fn retailer(retailer: u32, date: u32) -> Call {
     Call::AskRetailer { retailer, date }
 }
 
-// An answer in a form that can be compared and shown.
-#[derive(Clone, Copy, PartialEq, Debug)]
-pub(crate) enum Reply {
-    Accepted,
-    Figure(u64),
-    // Load, supplied, generated, remainder, excess and missing.
-    Day([u64; 6]),
-    RetailerSum(u64),
-    Refused(Refusal),
+pub(crate) fn accepted(call: Call) -> Case {
+    (call, Ok(Answer::Accepted))
 }
 
-pub(crate) fn replied(answer: Answer) -> Reply {
-    match answer {
-        Answer::Accepted => Reply::Accepted,
-        Answer::Figure(figure) => Reply::Figure(figure),
-        Answer::Day(day) => Reply::Day([
-            day.load,
-            day.supplied,
-            day.generated,
-            day.remainder,
-            day.excess,
-            day.missing,
-        ]),
-        Answer::RetailerSum(sum) => Reply::RetailerSum(sum),
-        Answer::Refused(refusal) => Reply::Refused(refusal),
-    }
+pub(crate) fn refused(call: Call, refusal: Refusal) -> Case {
+    (call, Err(refusal))
+}
+
+// The answer about a day, by its load, supplied, generated, remainder, excess and missing.
+pub(crate) fn account(numbers: [u64; 6]) -> Answer {
+    let [load, supplied, generated, remainder, excess, missing] = numbers;
+    Answer::Day(DayFigures {
+        load,
+        supplied,
+        generated,
+        remainder,
+        excess,
+        missing,
+    })
 }
 
 // Serves the calls of a table in one run, and holds each answer to the one beside the call.
 pub(crate) fn serve_table<E: Weather>(
-    rt: &impl Abort,
-    heap: Global,
+    rt: &(impl Abort + AllocGlobal),
     at: &str,
     book: &mut Book,
     estimator: &mut E,
     table: &[Case],
 ) -> Result<(), Fail> {
-    let mut calls = Vec::new(heap);
-    for (call, _) in table {
-        calls.push(*call)?;
-    }
-    let mut answers = vec![in heap; Answer::Accepted; calls.len()]?;
+    let heap = rt.alloc();
+    let calls: Vec<Call> = table.iter().map(|(call, _)| *call).collect(heap)?;
+    let mut answers = vec![in heap; Ok(Answer::Accepted); calls.len()]?;
     book.serve(estimator, calls.as_slice(), answers.as_mut_slice())?;
     for (i, (given, (_, due))) in answers.iter().zip(table).enumerate() {
-        assert_eq!(rt; replied(*given), *due, "{at}: call {i}");
+        assert_eq!(rt; *given, *due, "{at}: call {i}");
     }
     Ok(())
 }
 
-// A book of so many days and points from a date on, with its lists full of sevens before it was opened.
+// A book of so many days and points from July 2024 on, all whose gas is accounted for.
+pub(crate) fn from_july(days: u32, points: u32) -> OpeningRequest {
+    OpeningRequest {
+        first_date: 20240701,
+        days,
+        points,
+        unaccounted: 0,
+    }
+}
+
+// A book with so many places for readings, and with its lists full of sevens before it was opened.
 pub(crate) fn opened(
     heap: Global,
-    first: u32,
-    days: u32,
-    points: u32,
-    unaccounted: u64,
+    request: OpeningRequest,
     reading_places: usize,
 ) -> Result<Book, Fail> {
-    let sheet = vec![in heap; 7; 100]?;
-    let intervals = vec![in heap; 7; 500]?;
-    let readings = vec![in heap; None; reading_places]?;
-    match Book::open(first, days, points, unaccounted, sheet, intervals, readings) {
-        Ok(book) => Ok(book),
-        Err(unopened) => Err(Fail::new(format_args!("refused with {}", unopened.refusal.number()))),
-    }
+    let lists = Lists {
+        sheet: vec![in heap; 7; 100]?,
+        intervals: vec![in heap; 7; 500]?,
+        readings: vec![in heap; None; reading_places]?,
+    };
+    Ok(Book::open(request, lists)?)
 }
 
 // A list begins with some values, and every later place holds the seven that it held.

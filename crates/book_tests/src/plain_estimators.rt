@@ -1,11 +1,12 @@
 // The two plainest estimators that keep the laws of every estimator.
 ghost use Rattle.std.specs.Prelude.{◌&&◌, if◌then◌else◌, Option, refl};
-ghost use Rattle.refusals.specs.Answers.{Answers};
 ghost use Rattle.estimators.specs.Limits.{day_within, greatest_figure, point_within};
 ghost use Rattle.estimators.specs.Meaning.{weather_within};
 ghost use Rattle.book_tests.specs.Laws.{none_bounded, greatest_bounded, greatest_ranged};
 
-use estimators::{Estimator, GREATEST_FIGURE, Weather, count_within, day_within, point_within};
+use estimators::{
+    Estimator, GREATEST_FIGURE, Weather, count_within, day_within, judge_weather, point_within,
+};
 use refusals::Refusal;
 
 // Knows no figure at all.
@@ -15,16 +16,6 @@ pub(crate) struct Silent;
 // Takes every point to use as much as a figure can be.
 #[derive(Drop)]
 pub(crate) struct Greatest;
-
-// What every estimator answers to a count; neither of the two keeps it.
-fn judge_weather(day: u32, count: u32) -> Result<(), Refusal>
-    ensures { Answers result (weather_within day count) tt 3 }
-{
-    if !day_within(day) || !count_within(count) {
-        return Err(Refusal::BeyondLimits);
-    }
-    Ok(())
-}
 
 impl Estimator for Silent {
     ghost meaning = { λ _ _ _. Option.None };
@@ -78,11 +69,10 @@ impl Weather for Greatest {
     ghost ranged_under = { λ _ count point day. greatest_ranged (point_within point && weather_within day count) };
 
     fn figure_under(&self, point: u32, day: u32, count: u32) -> Option<u64> {
-        if count_within(count) {
-            self.figure(point, day)
-        } else {
-            None
+        if !count_within(count) {
+            return None;
         }
+        self.figure(point, day)
     }
 
     fn enter(&mut self, day: u32, count: u32) -> Result<(), Refusal> {

@@ -1,37 +1,39 @@
 // What the rules make of the calls that a book accepted, worked out from nothing each time. It shares no code with the book.
+use by_weather::Factors;
 use readings::ReadingType;
 use refusals::Refusal;
 use std::alloc::{AllocError, Global};
+use std::ops::Range;
 
 // Days are counted from 0, the book's first.
-#[derive(Clone, Copy)]
+#[derive(Clone, Copy, PartialEq, Eq, Debug)]
 pub(crate) struct Enrolled {
     pub(crate) point: u32,
     pub(crate) retailer: u32,
     pub(crate) start: u32,
 }
 
-#[derive(Clone, Copy)]
+#[derive(Clone, Copy, PartialEq, Eq, Debug)]
 pub(crate) struct Gate {
     pub(crate) day: u32,
     pub(crate) energy_in: u64,
     pub(crate) energy_out: u64,
 }
 
-#[derive(Clone, Copy)]
+#[derive(Clone, Copy, PartialEq, Eq, Debug)]
 pub(crate) struct Metered {
     pub(crate) day: u32,
     pub(crate) meter: u32,
     pub(crate) energy: u64,
 }
 
-#[derive(Clone, Copy)]
+#[derive(Clone, Copy, PartialEq, Eq, Debug)]
 pub(crate) struct Count {
     pub(crate) day: u32,
     pub(crate) count: u32,
 }
 
-#[derive(Clone, Copy)]
+#[derive(Clone, Copy, PartialEq, Eq, Debug)]
 pub(crate) struct Taken {
     pub(crate) point: u32,
     pub(crate) start: u32,
@@ -40,19 +42,28 @@ pub(crate) struct Taken {
     pub(crate) reading_type: ReadingType,
 }
 
-// A point's base load and sensitivity.
-#[derive(Clone, Copy)]
-pub(crate) struct Heating {
-    pub(crate) base_load: u64,
-    pub(crate) sensitivity: u64,
-}
-
-// How a point comes to its figure of a day.
-#[derive(Clone, Copy)]
+// How a point comes to its figure of a day: by its readings, or by an estimate, where there is one.
+#[derive(Clone, Copy, PartialEq, Eq, Debug)]
 enum Basis {
     Absent,
     Supplied(u64),
-    Estimated(u64),
+    Estimated(Option<u64>),
+}
+
+impl Basis {
+    fn supplied(&self) -> u64 {
+        match self {
+            Basis::Supplied(share) => *share,
+            _ => 0,
+        }
+    }
+
+    fn estimated(&self) -> u64 {
+        match self {
+            Basis::Estimated(estimate) => estimate.unwrap_or(0),
+            _ => 0,
+        }
+    }
 }
 
 // The figures of a day by point, and its account.
@@ -76,7 +87,7 @@ pub(crate) struct Area {
     pub(crate) unaccounted: u64,
     pub(crate) places: usize,
     // By point, from the first.
-    pub(crate) heating: Vec<Option<Heating>>,
+    pub(crate) heating: Vec<Option<Factors>>,
     pub(crate) counts_at_opening: Vec<Count>,
     pub(crate) enrolments: Vec<Enrolled>,
     pub(crate) gates: Vec<Gate>,
@@ -89,12 +100,14 @@ fn share_a_day(one: &Taken, other: &Taken) -> bool {
     one.point == other.point && one.start < other.end && other.start < one.end
 }
 
-// A day with a load weighs its load, and one with none of it weighs 1.
+// A day with a load weighs its load, and one with none of it weighs 1. The loads of all days are worked out once for a
+// comparison, so they go along as a list.
 fn weight(loads: &[Option<u64>], day: u32) -> u64 {
-    match loads.get(day as usize) {
-        Some(Some(load)) => (*load).max(1),
-        _ => 1,
-    }
+    loads
+        .get(day as usize)
+        .copied()
+        .flatten()
+        .map_or(1, |load| load.max(1))
 }
 
 // What has fallen to the first of some weights, of an amount that is shared over all of them.
@@ -102,40 +115,33 @@ fn fallen(amount: u64, first: u64, all: u64) -> u64 {
     amount.saturating_mul(first) / all.max(1)
 }
 
-// What falls to a day of a reading's energy.
+// What some days weigh together.
+fn weight_of(loads: &[Option<u64>], days: Range<u32>) -> u64 {
+    days.fold(0, |sum, day| sum.saturating_add(weight(loads, day)))
+}
+
+// What falls to a day that a reading covers of the reading's energy.
 fn share(reading: &Taken, loads: &[Option<u64>], day: u32) -> u64 {
-    let mut before = 0u64;
-    let mut through = 0u64;
-    let mut all = 0u64;
-    for other in reading.start..reading.end {
-        let weight = weight(loads, other);
-        if other < day {
-            before = before.saturating_add(weight);
-        }
-        if other <= day {
-            through = through.saturating_add(weight);
-        }
-        all = all.saturating_add(weight);
-    }
+    let before = weight_of(loads, reading.start..day);
+    let through = weight_of(loads, reading.start..day.saturating_add(1));
+    let all = weight_of(loads, reading.start..reading.end);
     let energy = reading.energy.unsigned_abs();
     fallen(energy, through, all).saturating_sub(fallen(energy, before, all))
 }
 
 impl Area {
     pub(crate) fn enrolment(&self, point: u32) -> Option<Enrolled> {
-        for enrolment in self.enrolments.iter() {
-            if enrolment.point == point {
-                return Some(*enrolment);
-            }
-        }
-        None
+        self.enrolments
+            .iter()
+            .find(|enrolment| enrolment.point == point)
+            .copied()
     }
 
     // The latest energies of a day's interval meters.
     pub(crate) fn energies(&self, day: u32) -> [u64; 32] {
         let mut energies = [0u64; 32];
         for interval in self.intervals.iter() {
-            if interval.day == day && 1 <= interval.meter && interval.meter <= 32 {
+            if interval.day == day && (1..=32).contains(&interval.meter) {
                 energies[interval.meter as usize - 1] = interval.energy;
             }
         }
@@ -144,17 +150,11 @@ impl Area {
 
     // The load of a day by its latest gate energies and interval energies.
     fn load(&self, day: u32) -> Option<u64> {
-        let mut gate = None;
-        for later in self.gates.iter() {
-            if later.day == day {
-                gate = Some(*later);
-            }
-        }
-        let gate = gate?;
-        let mut total = 0u64;
-        for energy in self.energies(day) {
-            total = total.saturating_add(energy);
-        }
+        let gate = self.gates.iter().rev().find(|gate| gate.day == day)?;
+        let total = self
+            .energies(day)
+            .iter()
+            .fold(0u64, |sum, energy| sum.saturating_add(*energy));
         let kept = 10_000u64.saturating_sub(self.unaccounted);
         let adjusted = total.saturating_mul(20_000).saturating_add(kept)
             / kept.saturating_mul(2).max(1);
@@ -166,22 +166,15 @@ impl Area {
     }
 
     pub(crate) fn loads(&self, heap: Global) -> Result<Vec<Option<u64>>, AllocError> {
-        let mut loads = Vec::new(heap);
-        for day in 0..self.days {
-            loads.push(self.load(day))?;
-        }
-        Ok(loads)
+        (0..self.days).map(|day| self.load(day)).collect(heap)
     }
 
     // The readings that no later one of their point shares a day with.
     pub(crate) fn held(&self, heap: Global) -> Result<Vec<Taken>, AllocError> {
         let mut held = Vec::new(heap);
         for (i, reading) in self.readings.iter().enumerate() {
-            let mut replaced = false;
-            for later in self.readings.iter().skip(i.saturating_add(1)) {
-                replaced = replaced || share_a_day(reading, later);
-            }
-            if !replaced {
+            let mut later = self.readings.iter().skip(i.saturating_add(1));
+            if !later.any(|other| share_a_day(reading, other)) {
                 held.push(*reading)?;
             }
         }
@@ -190,54 +183,38 @@ impl Area {
 
     // The last reading to cover a day of a point.
     fn covering(&self, point: u32, day: u32) -> Option<Taken> {
-        let mut covering = None;
-        for reading in self.readings.iter() {
-            if reading.point == point && reading.start <= day && day < reading.end {
-                covering = Some(*reading);
-            }
-        }
-        covering
+        self.readings
+            .iter()
+            .rev()
+            .find(|reading| reading.point == point && (reading.start..reading.end).contains(&day))
+            .copied()
     }
 
     // The estimate of a point under the day's latest count.
     fn estimate(&self, point: u32, day: u32) -> Option<u64> {
-        let mut latest = None;
-        for count in self.counts_at_opening.iter() {
-            if count.day == day {
-                latest = Some(count.count);
-            }
-        }
-        for count in self.counts.iter() {
-            if count.day == day {
-                latest = Some(count.count);
-            }
-        }
-        let count = latest?;
-        let Some(Some(heating)) = self.heating.get((point as usize).saturating_sub(1)) else {
-            return None;
-        };
+        let latest = self
+            .counts
+            .iter()
+            .rev()
+            .chain(self.counts_at_opening.iter().rev())
+            .find(|count| count.day == day)?;
+        let factors = (*self.heating.get((point as usize).saturating_sub(1))?)?;
         // To the nearest, halves up, from hundredths of a kilojoule.
-        let heat = heating
-            .base_load
-            .saturating_mul(100)
-            .saturating_add(heating.sensitivity.saturating_mul(u64::from(count)));
+        let heat = factors.base_load.saturating_mul(100).saturating_add(
+            factors.sensitivity.saturating_mul(u64::from(latest.count)),
+        );
         Some(heat.saturating_add(50_000) / 100_000)
     }
 
-    // How a point comes to its figure, and whether it lacks an estimate.
-    fn basis(&self, loads: &[Option<u64>], point: u32, day: u32) -> (Basis, bool) {
+    fn basis(&self, loads: &[Option<u64>], point: u32, day: u32) -> Basis {
         if let Some(reading) = self.covering(point, day) {
-            return (Basis::Supplied(share(&reading, loads, day)), false);
+            return Basis::Supplied(share(&reading, loads, day));
         }
-        let Some(enrolment) = self.enrolment(point) else {
-            return (Basis::Absent, false);
-        };
-        if day < enrolment.start {
-            return (Basis::Absent, false);
-        }
-        match self.estimate(point, day) {
-            Some(estimate) => (Basis::Estimated(estimate), false),
-            None => (Basis::Estimated(0), true),
+        match self.enrolment(point) {
+            Some(enrolment) if enrolment.start <= day => {
+                Basis::Estimated(self.estimate(point, day))
+            }
+            _ => Basis::Absent,
         }
     }
 
@@ -247,26 +224,20 @@ impl Area {
         loads: &[Option<u64>],
         day: u32,
     ) -> Result<Worked, AllocError> {
-        let mut bases = Vec::new(heap);
-        let mut supplied = 0u64;
-        let mut estimated = 0u64;
-        let mut missing = 0u64;
-        for point in 0..self.points {
-            let (basis, lacking) = self.basis(loads, point.saturating_add(1), day);
-            match basis {
-                Basis::Absent => {}
-                Basis::Supplied(share) => supplied = supplied.saturating_add(share),
-                Basis::Estimated(estimate) => estimated = estimated.saturating_add(estimate),
-            }
-            if lacking {
-                missing = missing.saturating_add(1);
-            }
-            bases.push(basis)?;
-        }
-        let load = match loads.get(day as usize) {
-            Some(load) => *load,
-            None => None,
-        };
+        let bases: Vec<Basis> = (1..=self.points)
+            .map(|point| self.basis(loads, point, day))
+            .collect(heap)?;
+        let supplied = bases
+            .iter()
+            .fold(0u64, |sum, basis| sum.saturating_add(basis.supplied()));
+        let estimated = bases
+            .iter()
+            .fold(0u64, |sum, basis| sum.saturating_add(basis.estimated()));
+        let missing = bases
+            .iter()
+            .filter(|basis| matches!(basis, Basis::Estimated(None)))
+            .count();
+        let load = loads.get(day as usize).copied().flatten();
         let whole = load.unwrap_or(0);
         let scaled = load.is_some() && supplied.saturating_add(estimated) > whole && estimated > 0;
         let left = whole.saturating_sub(supplied);
@@ -277,15 +248,16 @@ impl Area {
             let figure = match basis {
                 Basis::Absent => 0,
                 Basis::Supplied(share) => *share,
-                Basis::Estimated(estimate) => {
+                Basis::Estimated(_) => {
+                    let estimate = basis.estimated();
                     let before = running;
-                    running = running.saturating_add(*estimate);
+                    running = running.saturating_add(estimate);
                     let figure = if scaled {
                         fallen(left, running, estimated).saturating_sub(fallen(
                             left, before, estimated,
                         ))
                     } else {
-                        *estimate
+                        estimate
                     };
                     generated = generated.saturating_add(figure);
                     figure
@@ -300,105 +272,94 @@ impl Area {
             generated,
             remainder: whole.saturating_sub(supplied.saturating_add(generated)),
             excess: supplied.saturating_sub(whole),
-            missing,
+            missing: missing as u64,
             scaled,
         })
     }
 
     // What the figures of a retailer's points on a day come to.
     pub(crate) fn retailer_sum(&self, worked: &Worked, retailer: u32) -> u64 {
-        let mut sum = 0u64;
-        for enrolment in self.enrolments.iter() {
-            if enrolment.retailer == retailer {
-                let place = (enrolment.point as usize).saturating_sub(1);
-                let figure = worked.figures.get(place).copied().unwrap_or(0);
-                sum = sum.saturating_add(figure);
-            }
-        }
-        sum
+        self.enrolments
+            .iter()
+            .filter(|enrolment| enrolment.retailer == retailer)
+            .filter_map(|enrolment| {
+                worked
+                    .figures
+                    .get((enrolment.point as usize).saturating_sub(1))
+            })
+            .fold(0u64, |sum, figure| sum.saturating_add(*figure))
     }
 
-    // A day is the start day of a point, or the end of a reading that it holds.
-    fn is_mark(&self, held: &[Taken], enrolment: Enrolled, day: u32) -> bool {
-        let mut found = enrolment.start == day;
-        for reading in held {
-            found = found || reading.point == enrolment.point && reading.end == day;
-        }
-        found
-    }
-
-    // Why a reading is refused once its numbers, dates and point are found in order: 9 to 13.
+    // Why a reading is refused once its numbers, dates and point are found in order.
     fn judge_span(
         &self,
-        heap: Global,
+        held: &[Taken],
         enrolment: Enrolled,
         reading: Taken,
         dates: &[u32],
-    ) -> Result<Option<Refusal>, AllocError> {
-        let held = self.held(heap)?;
-        if !self.is_mark(held.as_slice(), enrolment, reading.start) {
-            return Ok(Some(Refusal::StartIsNoMark));
+    ) -> Result<(), Refusal> {
+        if !is_mark(held, enrolment, reading.start) {
+            return Err(Refusal::StartIsNoMark);
         }
-        let mut last = enrolment.start;
-        let mut over_firm = false;
-        let mut kept = 0usize;
-        for old in held.iter() {
-            if old.point == reading.point {
-                last = last.max(old.end);
-            }
-            if share_a_day(old, &reading) {
-                over_firm = over_firm || is_firm(old.reading_type);
-            } else {
-                kept = kept.saturating_add(1);
-            }
-        }
+        let last = held
+            .iter()
+            .filter(|old| old.point == reading.point)
+            .fold(enrolment.start, |last, old| last.max(old.end));
         if reading.end <= reading.start
-            || reading.end <= last && !self.is_mark(held.as_slice(), enrolment, reading.end)
+            || reading.end <= last && !is_mark(held, enrolment, reading.end)
         {
-            return Ok(Some(Refusal::EndNotAllowed));
+            return Err(Refusal::EndNotAllowed);
         }
-        for day in reading.start..reading.end {
-            if self.load(day).is_none() {
-                let date = dates.get(day as usize).copied().unwrap_or(0);
-                return Ok(Some(Refusal::CoveredDayWithoutLoad { date }));
-            }
+        let unloaded = (reading.start..reading.end).find(|day| self.load(*day).is_none());
+        if let Some(day) = unloaded {
+            let date = dates.get(day as usize).copied().unwrap_or(0);
+            return Err(Refusal::CoveredDayWithoutLoad { date });
         }
+        let over_firm = held.iter().any(|old| share_a_day(old, &reading)
+            && is_firm(old.reading_type));
         if over_firm && !is_firm(reading.reading_type) {
-            return Ok(Some(Refusal::SoftOverFirm));
+            return Err(Refusal::SoftOverFirm);
         }
-        if kept.saturating_add(1) > self.places {
-            return Ok(Some(Refusal::ReadingPlacesFull));
+        let kept = held
+            .iter()
+            .filter(|old| !share_a_day(old, &reading))
+            .count();
+        if kept >= self.places {
+            return Err(Refusal::ReadingPlacesFull);
         }
-        Ok(None)
+        Ok(())
     }
 
-    // Why a reading is refused, or none.
+    // Judges a reading beside those that are held.
     pub(crate) fn judge_reading(
         &self,
-        heap: Global,
+        held: &[Taken],
         reading: Taken,
         dates: &[u32],
-    ) -> Result<Option<Refusal>, AllocError> {
-        if reading.point < 1 || reading.point > self.points || reading.energy > 10_000_000 {
-            return Ok(Some(Refusal::BeyondLimits));
+    ) -> Result<(), Refusal> {
+        if !(1..=self.points).contains(&reading.point) || reading.energy > 10_000_000 {
+            return Err(Refusal::BeyondLimits);
         }
         if reading.start >= self.days || reading.end > self.days {
-            return Ok(Some(Refusal::OutsideBook));
+            return Err(Refusal::OutsideBook);
         }
         if reading.energy < 0 {
-            return Ok(Some(Refusal::NegativeEnergy));
+            return Err(Refusal::NegativeEnergy);
         }
-        let Some(enrolment) = self.enrolment(reading.point) else {
-            return Ok(Some(Refusal::PointNotEnrolled));
-        };
-        self.judge_span(heap, enrolment, reading, dates)
+        let enrolment = self
+            .enrolment(reading.point)
+            .ok_or(Refusal::PointNotEnrolled)?;
+        self.judge_span(held, enrolment, reading, dates)
     }
+}
+
+// A day is the start day of a point, or the end of a reading that it holds.
+fn is_mark(held: &[Taken], enrolment: Enrolled, day: u32) -> bool {
+    enrolment.start == day
+        || held.iter().any(|reading| reading.point == enrolment.point && reading.end == day)
 }
 
 // Neither a customer's own reading nor an estimated one.
 fn is_firm(reading_type: ReadingType) -> bool {
-    match reading_type {
-        ReadingType::Actual | ReadingType::Substituted => true,
-        ReadingType::Estimated | ReadingType::CustomersOwn => false,
-    }
+    matches!(reading_type, ReadingType::Actual | ReadingType::Substituted)
 }

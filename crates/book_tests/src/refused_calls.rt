@@ -1,29 +1,20 @@
 // Each refusal that a call on an open book can meet.
 use super::calls::{
-    Case, Reply, actual, day, degree_days, enrol, estimate, figure, gate, interval, opened,
-    retailer, serve_table,
+    accepted, account, actual, day, degree_days, enrol, estimate, figure, from_july, gate,
+    interval, opened, refused, retailer, serve_table,
 };
 use super::plain_estimators::Silent;
-use histories::Call;
+use book::Answer;
 use refusals::Refusal;
 use std::test::Fail;
-
-fn refused(call: Call, refusal: Refusal) -> Case {
-    (call, Reply::Refused(refusal))
-}
-
-fn accepted(call: Call) -> Case {
-    (call, Reply::Accepted)
-}
 
 // Numbers beyond their limits, dates that do not exist, and dates outside a book of three days and two points. The first
 // reason answers where there are several.
 #[test]
 fn limits_and_dates(rt: HostRuntime) -> Result<(), Fail> {
-    let mut book = opened(rt.alloc(), 20240701, 3, 2, 0, 1)?;
+    let mut book = opened(rt.alloc(), from_july(3, 2), 1)?;
     serve_table(
         &rt,
-        rt.alloc(),
         "limits and dates",
         &mut book,
         &mut Silent,
@@ -67,10 +58,9 @@ fn limits_and_dates(rt: HostRuntime) -> Result<(), Fail> {
 // The refusals of readings, enrolments and questions, in a book of three days with one place for a reading.
 #[test]
 fn what_was_told_before(rt: HostRuntime) -> Result<(), Fail> {
-    let mut book = opened(rt.alloc(), 20240701, 3, 2, 0, 1)?;
+    let mut book = opened(rt.alloc(), from_july(3, 2), 1)?;
     serve_table(
         &rt,
-        rt.alloc(),
         "what was told before",
         &mut book,
         &mut Silent,
@@ -115,12 +105,12 @@ fn what_was_told_before(rt: HostRuntime) -> Result<(), Fail> {
             accepted(gate(20240703, 0, 0)),
             refused(estimate(1, 20240701, 20240704, 5), Refusal::SoftOverFirm),
             refused(actual(1, 20240703, 20240704, 5), Refusal::ReadingPlacesFull),
-            (day(20240703), Reply::Day([0, 0, 0, 0, 0, 1])),
+            (day(20240703), Ok(account([0, 0, 0, 0, 0, 1]))),
             accepted(actual(1, 20240701, 20240704, 401)),
-            (figure(1, 20240701), Reply::Figure(100)),
-            (figure(1, 20240702), Reply::Figure(300)),
-            (figure(1, 20240703), Reply::Figure(1)),
-            (day(20240703), Reply::Day([0, 1, 0, 0, 1, 0])),
+            (figure(1, 20240701), Ok(Answer::Figure(100))),
+            (figure(1, 20240702), Ok(Answer::Figure(300))),
+            (figure(1, 20240703), Ok(Answer::Figure(1))),
+            (day(20240703), Ok(account([0, 1, 0, 0, 1, 0]))),
         ],
     )
 }

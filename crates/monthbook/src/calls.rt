@@ -1,6 +1,6 @@
 // What the book is told in July, in the order in which it came, and what it is asked at the end of the month.
 use super::month::{DAYS, FIRST, LAST};
-use histories::Call;
+use histories::{Call, Delivery};
 use readings::ReadingType;
 use std::alloc::{AllocError, Global};
 
@@ -83,20 +83,20 @@ const GATES: [(u64, u64); DAYS] = [
 
 // Readings before all loads are there: that of point 2 covers days without one, and such a day has no account.
 const EARLY: [Call; 4] = [
-    Call::EnterReading {
+    Call::EnterReading(Delivery {
         point: 1,
         start: FIRST,
         end: 20240715,
         energy: 3_900,
         reading_type: ReadingType::Estimated,
-    },
-    Call::EnterReading {
+    }),
+    Call::EnterReading(Delivery {
         point: 2,
         start: FIRST,
         end: 20240720,
         energy: 5_300,
         reading_type: ReadingType::Actual,
-    },
+    }),
     Call::AskDay { date: 20240715 },
     Call::AskFigure {
         point: 1,
@@ -135,67 +135,67 @@ const LATE_INTERVALS: [Call; 5] = [
 
 // The reading of point 2 once more, and an actual reading of point 1 over the days of its estimate, which cannot come back.
 const REPLACED: [Call; 5] = [
-    Call::EnterReading {
+    Call::EnterReading(Delivery {
         point: 2,
         start: FIRST,
         end: 20240720,
         energy: 5_300,
         reading_type: ReadingType::Actual,
-    },
+    }),
     Call::AskFigure {
         point: 1,
         date: 20240705,
     },
-    Call::EnterReading {
+    Call::EnterReading(Delivery {
         point: 1,
         start: FIRST,
         end: 20240715,
         energy: 4_100,
         reading_type: ReadingType::Actual,
-    },
+    }),
     Call::AskFigure {
         point: 1,
         date: 20240705,
     },
-    Call::EnterReading {
+    Call::EnterReading(Delivery {
         point: 1,
         start: FIRST,
         end: 20240715,
         energy: 3_900,
         reading_type: ReadingType::Estimated,
-    },
+    }),
 ];
 
 // Readings on to later days; one of them ends between marks. The last supplies more on one day than the load of it.
 const ONWARD: [Call; 4] = [
-    Call::EnterReading {
+    Call::EnterReading(Delivery {
         point: 1,
         start: 20240715,
         end: 20240725,
         energy: 3_000,
         reading_type: ReadingType::Actual,
-    },
-    Call::EnterReading {
+    }),
+    Call::EnterReading(Delivery {
         point: 1,
         start: 20240715,
         end: 20240720,
         energy: 1_450,
         reading_type: ReadingType::Actual,
-    },
-    Call::EnterReading {
+    }),
+    Call::EnterReading(Delivery {
         point: 3,
         start: 20240708,
         end: 20240724,
         energy: 5_200,
         reading_type: ReadingType::Actual,
-    },
-    Call::EnterReading {
+    }),
+    Call::EnterReading(Delivery {
         point: 3,
         start: 20240724,
         end: 20240725,
         energy: 700,
         reading_type: ReadingType::Substituted,
-    },
+    }),
 ];
 
 // A gate day is revised: it moves days that a reading joins to it, and no others. Last, the day with an excess.
@@ -226,25 +226,23 @@ const REVISED: [Call; 6] = [
 
 // The degree days of the month.
 fn enter_counts(calls: &mut Vec<Call>) -> Result<(), AllocError> {
-    for (date, count) in (FIRST..=LAST).zip(COUNTS.iter()) {
-        calls.push(Call::EnterDegreeDays {
+    calls.extend(
+        (FIRST..=LAST).zip(COUNTS.iter()).map(|(date, count)| Call::EnterDegreeDays {
             date,
             count: *count,
-        })?;
-    }
-    Ok(())
+        }),
+    )
 }
 
 // The gate days from a first date on.
 fn enter_gates(calls: &mut Vec<Call>, first: u32, gates: &[(u64, u64)]) -> Result<(), AllocError> {
-    for (date, (energy_in, energy_out)) in (first..=LAST).zip(gates.iter()) {
-        calls.push(Call::EnterGate {
+    calls.extend(
+        (first..=LAST).zip(gates.iter()).map(|(date, (energy_in, energy_out))| Call::EnterGate {
             date,
             energy_in: *energy_in,
             energy_out: *energy_out,
-        })?;
-    }
-    Ok(())
+        }),
+    )
 }
 
 // What the book is told, with a few questions on the way.

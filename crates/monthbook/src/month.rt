@@ -1,13 +1,12 @@
 ghost use Rattle.std.specs.Prelude.{◌≡◌, length, IfOk, vec_len};
 
-use anyhow::anyhow;
-use book::{Answer, Book};
+use book::{Answer, Book, Lists, OpeningRequest};
 use by_weather::{ByWeather, Factors};
 use histories::Call;
 use refusals::Refusal;
 use std::alloc::Global;
 
-// July 2024.
+// July 2024. From the first to the last, dates are counted by their digits, so both lie in one month.
 pub const FIRST: u32 = 20240701;
 
 pub const LAST: u32 = 20240731;
@@ -49,7 +48,7 @@ pub(crate) struct Month {
 // Estimates by weather, with the factors of each point.
 fn by_factors() -> Result<ByWeather, Refusal> {
     let mut estimator = ByWeather::new();
-    for (point, factors) in (1..=256).zip(FACTORS.iter()) {
+    for (point, factors) in (1..=POINTS as u32).zip(FACTORS.iter()) {
         estimator.enter_factors(point, *factors)?;
     }
     Ok(estimator)
@@ -58,38 +57,34 @@ fn by_factors() -> Result<ByWeather, Refusal> {
 impl Month {
     // A book that has been told nothing yet.
     pub(crate) fn open(heap: Global) -> anyhow::Result<Month> {
-        let Ok(estimator) = by_factors() else {
-            return Err(anyhow!("no factors"));
+        let estimator = by_factors()?;
+        let request = OpeningRequest {
+            first_date: FIRST,
+            days: DAYS as u32,
+            points: POINTS as u32,
+            unaccounted: UNACCOUNTED,
         };
-        let sheet = vec![in heap; 0; DAYS * POINTS]?;
-        let intervals = vec![in heap; 0; DAYS * INTERVAL_METERS]?;
-        let readings = vec![in heap; None; READING_PLACES]?;
-        match Book::open(
-            FIRST,
-            DAYS as u32,
-            POINTS as u32,
-            UNACCOUNTED,
-            sheet,
-            intervals,
-            readings,
-        ) {
-            Ok(book) => Ok(Month { book, estimator }),
-            Err(_) => Err(anyhow!("no book")),
-        }
+        let lists = Lists {
+            sheet: vec![in heap; 0; DAYS * POINTS]?,
+            intervals: vec![in heap; 0; DAYS * INTERVAL_METERS]?,
+            readings: vec![in heap; None; READING_PLACES]?,
+        };
+        let book = Book::open(request, lists)?;
+        Ok(Month { book, estimator })
     }
 
     // The answer to each call, in their order. The law over them stands on the book's own `serve`.
-    pub(crate) fn serve(&mut self, heap: Global, calls: &[Call]) -> anyhow::Result<Vec<Answer>>
+    pub(crate) fn serve(
+        &mut self,
+        heap: Global,
+        calls: &[Call],
+    ) -> anyhow::Result<Vec<Result<Answer, Refusal>>>
         ensures { IfOk result (λ answers. vec_len answers ≡ length calls.now) }
     {
-        let mut answers = vec![in heap; Answer::Accepted; calls.len()]?;
-        match self
-            .book
-            .serve(&mut self.estimator, calls, answers.as_mut_slice())
-        {
-            Ok(()) => Ok(answers),
-            Err(_) => Err(anyhow!("no room for the answers")),
-        }
+        let mut answers = vec![in heap; Ok(Answer::Accepted); calls.len()]?;
+        self.book
+            .serve(&mut self.estimator, calls, answers.as_mut_slice())?;
+        Ok(answers)
     }
 
     // The figures, day by day and by point.

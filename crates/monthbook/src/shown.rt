@@ -1,13 +1,12 @@
-// Calls and answers in words.
+// Calls and answers in words. Each type of another crate is shown by one of this program, since only that may have a `Display`.
 use book::Answer;
-use histories::Call;
-use readings::ReadingType;
+use histories::{Call, Delivery};
 use refusals::Refusal;
 use sheet::DayFigures;
 use std::fmt;
 
-// A date by its year, month and day.
-#[derive(Clone, Copy)]
+// A date by its digits: a call may name a date that does not exist.
+#[derive(Clone, Copy, PartialEq, Eq, Debug)]
 pub(crate) struct DateShown(pub u32);
 
 impl fmt::Display for DateShown {
@@ -19,7 +18,7 @@ impl fmt::Display for DateShown {
     }
 }
 
-#[derive(Clone, Copy)]
+#[derive(Clone, Copy, PartialEq, Eq, Debug)]
 pub(crate) struct CallShown(pub Call);
 
 impl fmt::Display for CallShown {
@@ -55,16 +54,17 @@ impl fmt::Display for CallShown {
             Call::EnterDegreeDays { date, count } => {
                 write!(f, "degree days of {}, {count} hundredths", DateShown(date))
             }
-            Call::EnterReading {
-                point,
-                start,
-                end,
-                energy,
-                reading_type,
-            } => write!(
+            Call::EnterReading(
+                Delivery {
+                    point,
+                    start,
+                    end,
+                    energy,
+                    reading_type,
+                },
+            ) => write!(
                 f,
-                "{} reading of point {point} from {} to {}, {energy} MJ",
-                type_named(reading_type),
+                "{reading_type} reading of point {point} from {} to {}, {energy} MJ",
                 DateShown(start),
                 DateShown(end)
             ),
@@ -79,23 +79,22 @@ impl fmt::Display for CallShown {
     }
 }
 
-#[derive(Clone, Copy)]
-pub(crate) struct AnswerShown(pub Answer);
+#[derive(Clone, Copy, PartialEq, Eq, Debug)]
+pub(crate) struct AnswerShown(pub Result<Answer, Refusal>);
 
 impl fmt::Display for AnswerShown {
     fn fmt<W: fmt::Write>(&self, f: &mut fmt::Formatter<W>) -> fmt::Result {
         match self.0 {
-            Answer::Accepted => write!(f, "accepted"),
-            Answer::Figure(figure) => write!(f, "{figure} MJ"),
-            Answer::Day(figures) => write!(f, "{}", DayShown(figures)),
-            Answer::RetailerSum(sum) => write!(f, "{sum} MJ"),
-            Answer::Refused(refusal) => write!(f, "{}", RefusalShown(refusal)),
+            Ok(Answer::Accepted) => write!(f, "accepted"),
+            Ok(Answer::Figure(energy) | Answer::RetailerSum(energy)) => write!(f, "{energy} MJ"),
+            Ok(Answer::Day(figures)) => write!(f, "{}", DayShown(figures)),
+            Err(refusal) => write!(f, "{}", RefusalShown(refusal)),
         }
     }
 }
 
 // The six numbers of a day.
-#[derive(Clone, Copy)]
+#[derive(Clone, Copy, PartialEq, Eq, Debug)]
 pub(crate) struct DayShown(pub DayFigures);
 
 impl fmt::Display for DayShown {
@@ -116,45 +115,16 @@ impl fmt::Display for DayShown {
 }
 
 // A refusal by its number, its reason and the day that it names.
-#[derive(Clone, Copy)]
+#[derive(Clone, Copy, PartialEq, Eq, Debug)]
 pub(crate) struct RefusalShown(pub Refusal);
 
 impl fmt::Display for RefusalShown {
     fn fmt<W: fmt::Write>(&self, f: &mut fmt::Formatter<W>) -> fmt::Result {
-        let number = self.0.number();
-        let reason = reason(self.0);
-        match self.0.day() {
-            Some(date) => write!(f, "refused, {number}, {reason}: {}", DateShown(date)),
-            None => write!(f, "refused, {number}, {reason}"),
+        let refusal = self.0;
+        let number = refusal.number();
+        match refusal.day() {
+            Some(date) => write!(f, "refused, {number}, {refusal}: {}", DateShown(date)),
+            None => write!(f, "refused, {number}, {refusal}"),
         }
-    }
-}
-
-fn type_named(reading_type: ReadingType) -> &'static str {
-    match reading_type {
-        ReadingType::Actual => "actual",
-        ReadingType::Substituted => "substituted",
-        ReadingType::Estimated => "estimated",
-        ReadingType::CustomersOwn => "customer's own",
-    }
-}
-
-fn reason(refusal: Refusal) -> &'static str {
-    match refusal {
-        Refusal::MalformedLine => "the line is malformed",
-        Refusal::OutOfTurn => "it is not its turn",
-        Refusal::BeyondLimits => "a number is beyond its limits",
-        Refusal::NoSuchDate => "there is no such date",
-        Refusal::OutsideBook => "a date lies outside the book",
-        Refusal::NegativeEnergy => "the energy is negative",
-        Refusal::PointNotEnrolled => "the point is not enrolled",
-        Refusal::PointEnrolledAlready => "the point is enrolled already",
-        Refusal::StartIsNoMark => "it starts at no mark",
-        Refusal::EndNotAllowed => "it ends neither at a mark nor later than all",
-        Refusal::CoveredDayWithoutLoad { .. } => "a day that it covers has no load",
-        Refusal::SoftOverFirm => "a soft reading does not replace a firm one",
-        Refusal::ReadingPlacesFull => "no place is left for a reading",
-        Refusal::AskedDayWithoutLoad { .. } => "the day has no load",
-        Refusal::ListTooShort => "a list is too short",
     }
 }

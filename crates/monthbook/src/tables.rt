@@ -4,11 +4,16 @@ use super::month::{DAYS, FIRST, LAST, POINTS};
 use super::shown::{AnswerShown, CallShown, DateShown};
 use book::Answer;
 use histories::Call;
+use refusals::Refusal;
 use sheet::DayFigures;
 use std::io;
 
 // Each call with its number and its answer.
-pub(crate) fn print_calls(rt: &HostRuntime, calls: &[Call], answers: &[Answer]) -> io::Result<()> {
+pub(crate) fn print_calls(
+    rt: &HostRuntime,
+    calls: &[Call],
+    answers: &[Result<Answer, Refusal>],
+) -> io::Result<()> {
     println!(rt; "What the book is told and asked, and what it answers")?;
     for (i, (call, answer)) in calls.iter().zip(answers.iter()).enumerate() {
         let call = CallShown(*call);
@@ -35,7 +40,7 @@ pub(crate) fn print_sheet(rt: &HostRuntime, figures: &[u64]) -> io::Result<()> {
 }
 
 // The account of a day and both retailers' sums.
-#[derive(Clone, Copy)]
+#[derive(Clone, Copy, PartialEq, Eq, Debug)]
 struct Account {
     figures: DayFigures,
     northern: u64,
@@ -43,12 +48,12 @@ struct Account {
 }
 
 // The account that the answers about a day give.
-fn account_in(answers: &[Answer]) -> Option<Account> {
+fn account_in(answers: &[Result<Answer, Refusal>]) -> Option<Account> {
     match answers {
         [
-            Answer::Day(figures),
-            Answer::RetailerSum(northern),
-            Answer::RetailerSum(southern),
+            Ok(Answer::Day(figures)),
+            Ok(Answer::RetailerSum(northern)),
+            Ok(Answer::RetailerSum(southern)),
         ] => {
             Some(Account {
                 figures: *figures,
@@ -61,7 +66,7 @@ fn account_in(answers: &[Answer]) -> Option<Account> {
 }
 
 // The six numbers of each day, and the retailers' sums.
-pub(crate) fn print_days(rt: &HostRuntime, answers: &[Answer]) -> io::Result<()> {
+pub(crate) fn print_days(rt: &HostRuntime, answers: &[Result<Answer, Refusal>]) -> io::Result<()> {
     println!(rt; "")?;
     println!(rt; "The days, in MJ, and how many estimates are missing")?;
     println!(rt;
