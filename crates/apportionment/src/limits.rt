@@ -1,3 +1,5 @@
+// Numbers of the book's that stand here again: this crate builds on no book.
+
 // The largest metered energy of a reading.
 pub const LARGEST_ENERGY: u64 = 10_000_000;
 

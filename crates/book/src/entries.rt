@@ -7,6 +7,7 @@ use estimators::{Estimator, Weather};
 use histories::Delivery;
 use refusals::Refusal;
 
+// What the estimator means is named in two traits: a word over both would be no shorter.
 impl Book {
     // Gives a point its retailer and its start day. A point is enrolled once.
     pub fn enrol<E: Weather>(

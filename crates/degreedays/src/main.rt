@@ -115,19 +115,18 @@ fn show_count(rt: &HostRuntime, date: u32, reckoning: &Reckoning) -> io::Result<
 
 // What the sample points are given before and after the count is entered.
 fn show_samples(rt: &HostRuntime, date: u32, count: u32) -> anyhow::Result<()> {
-    let given = sampled(date, count)?;
-    for (point, (old, new)) in (1..4).zip(&given) {
+    let (before, after) = sampled(date, count)?;
+    for (point, (old, new)) in (1..4).zip(before.iter().zip(&after)) {
         println!(rt; "point {point}: {old} before, {new} after")?;
     }
     Ok(())
 }
 
-fn sampled(date: u32, count: u32) -> Result<[(AnswerShown, AnswerShown); 3], Refusal> {
+fn sampled(date: u32, count: u32) -> Result<([AnswerShown; 3], [AnswerShown; 3]), Refusal> {
     let mut estimator = sample_estimator(date)?;
     let before = samples(&estimator);
     estimator.enter(1, count)?;
-    let after = samples(&estimator);
-    Ok(array::from_fn(|i| (before[i], after[i])))
+    Ok((before, samples(&estimator)))
 }
 
 // What each of the three sample points is given.

@@ -1,4 +1,5 @@
 // What a book has been told: gates, interval energies, enrolments and held readings.
+// Promises speak of every setting and history that a ledger follows: one that it kept itself would promise less.
 #![tactic(auto)]
 
 mod access;

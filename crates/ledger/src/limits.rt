@@ -13,7 +13,7 @@ pub(crate) const RETAILERS: u32 = 16;
 // The most energy of a reading.
 pub(crate) const LARGEST_ENERGY: i64 = 10_000_000;
 
-// Whether there is such a retailer.
+// Whether there is such a retailer. One line, as `point_within` of the estimators is.
 pub(crate) fn retailer_within(retailer: u32) -> bool
     ensures { result ≡ between 1 retailers retailer }
 {

@@ -18,6 +18,7 @@ pub const POINTS: usize = 3;
 // 2.5 percent, in ten-thousandths.
 const UNACCOUNTED: u64 = 250;
 
+// The ledger's number, which it keeps to itself.
 const INTERVAL_METERS: usize = 32;
 
 const READING_PLACES: usize = 8;

@@ -43,7 +43,7 @@ impl Sheet {
         requires { HasDay self.now day }
         ensures { (s : Setting) (h : History) → Told s h sources.now.ledger.now self.now → EstimatesOn s h day (E.Estimator.meaning sources.now.estimator.now) → result ≡ law.missing s h day }
     {
-        // Half open: no lemma of the library says what a chain over `1..=` yields.
+        // Half open: tried as `1..=`, and the count did not prove.
         (1..self.points + 1)
             .filter(|point| self.is_missing(sources, *point, day))
             .count() as u64

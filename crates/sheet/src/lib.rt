@@ -1,4 +1,5 @@
 // The daily figures of every point, kept as a book is told things.
+// Promises speak of every setting and history, as the ledger's do: one that a sheet kept itself would promise less.
 #![tactic(auto)]
 
 mod asking;

@@ -24,6 +24,7 @@ pub fn reckon(date: u32, observations: &Observations) -> Result<Reckoning, Word>
     first_beyond(observations)?;
     // Only the sunshine is left to be beyond its limits.
     let terms = observations.terms(day_of_year).map_err(|_| Word::Sunshine)?;
+    // Counted anew: `Terms::count` asks for small terms, and so stays in its crate.
     let count = observations
         .degree_days(day_of_year)
         .map_err(|_| Word::Sunshine)?;
