@@ -85,6 +85,7 @@ impl Weather for HotWater {
 
     ghost ranged_under = { λ s. ranged_under s };
 
+    // A test's estimator has the same lines: a function shared by both would be no plainer.
     fn figure_under(&self, point: u32, day: u32, count: u32) -> Option<u64> {
         if !count_within(count) {
             return None;
