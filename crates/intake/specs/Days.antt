@@ -1,0 +1,27 @@
+-- The lines of the days with a load.
+use Rattle.std.specs.Prelude.{ℕ, ◌+◌, cond, List, None, Option, option_to_list, nat_lt}
+use Rattle.std.specs.List.{flat_map, range_with_len}
+use Rattle.std.specs.Option.{option_map}
+use Rattle.calendar.specs.Digits.{date_numbered}
+use Rattle.histories.specs.History.{History, Setting}
+use Rattle.report_lines.specs.declared.day_line.DayLine.{DayLine}
+use Rattle.sheet.specs.Asking.{day_account}
+use Rattle.intake.specs.Told.{Told, opened, unopened}
+
+-- how many days there are to report
+abbrev pub days_told : Told → ℕ
+days_told (unopened fs) = 0
+days_told (opened s h) = s.days
+
+-- the line of a day of the book, counted from 0, if it has a load: its date, and its account
+abbrev pub book_line : Setting → History → ℕ → Option DayLine
+book_line s h d =
+    cond (nat_lt d s.days) (option_map (λ figures. record { date = date_numbered (s.first + d); figures = figures }) (day_account s h d)) None
+
+abbrev pub day_line : Told → ℕ → Option DayLine
+day_line (unopened fs) d = None
+day_line (opened s h) d = book_line s h d
+
+-- the lines of all days with a load, in the order of their dates
+abbrev pub day_lines : Told → List DayLine
+day_lines t = flat_map (λ d. option_to_list (day_line t d)) (range_with_len 0 (days_told t))

@@ -1,0 +1,4 @@
+pub mod Told
+pub mod Judging
+pub mod Stands
+pub mod Lines
