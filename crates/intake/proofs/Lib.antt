@@ -1,1 +1,6 @@
-pub mod Laws
+pub mod Factors
+pub mod Opening
+
+pub mod Entering
+pub mod Served
+pub mod DayShown

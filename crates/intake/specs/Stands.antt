@@ -1,8 +1,10 @@
 -- An intake stands as the lines accepted so far leave it.
-use Rattle.std.specs.Prelude.{◌≡◌, ℕ, ◌*◌, ◌≤◌, min, List, [], None, Ok, Err, Result, vec_len}
+use Rattle.std.specs.Prelude.{◌≡◌, ℕ, ◌+◌, ◌*◌, ◌<◌, ◌≤◌, min, List, [], length, None, Ok, Err, Result, vec_len}
 use Rattle.book.specs.Follows.{Beyond, Follows}
+use Rattle.calendar.specs.Gregorian.{days_in_all}
 use Rattle.by_weather.specs.Figures.{count_of, factors_of, figures, figures_under}
 use Rattle.by_weather.specs.declared.by_weather.ByWeather.{ByWeather}
+use Rattle.estimators.specs.Limits.{last_point}
 use Rattle.histories.specs.Calls.{meters}
 use Rattle.histories.specs.History.{History, Setting}
 use Rattle.ledger.specs.declared.open.Unopened.{Unopened}
@@ -24,14 +26,15 @@ pub record Room (lists : Lists) : Type 0 where
 
 -- an estimator by weather with these factors and no count
 pub record Weathers (fs : List Factors) (w : ByWeather) : Type 0 where
+  pub table : length w.factors ≡ last_point
   pub factors : (p : ℕ) → factors_of w p ≡ factors_told fs p
   pub counts : (d : ℕ) → count_of w d ≡ None
 
--- the days of a book
+-- the days of a book, which ends in time
 pub record Spans (span : Span) (s : Setting) : Type 0 where
   pub first : span.first ≡ s.first
   pub days : span.days ≡ s.days
-  pub few : s.days ≤ limits.days
+  pub in_time : s.first + s.days < days_in_all
 
 -- a book and its estimator stand as a history leaves them
 pub record BookStands (s : Setting) (h : History) (o : Opened) (w : ByWeather) : Type 0 where

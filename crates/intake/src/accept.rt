@@ -31,6 +31,7 @@ impl Intake {
     // Enters factors within their limits.
     fn enter_factors(&mut self, factors: records::Factors) -> Result<(), Fault>
         requires { verdict limits (of.Factors factors) ≡ None }
+        ensures lines { self.new.lines ≡ self.old.lines }
         ensures refused { OnErr result (self.new ≡ self.old) }
         ensures law { (t : Told) → StageStands t self.old.stage self.old.weather → in_turn t (of.Factors factors) ≡ true → (told_of result ≡ None) × StageStands (with_record t (of.Factors factors)) self.new.stage self.new.weather }
     {
@@ -46,6 +47,7 @@ impl Intake {
     // Opens the book, by an opening within its limits.
     fn open(&mut self, opening: records::Opening) -> Result<(), Fault>
         requires { verdict limits (of.Opening opening) ≡ None }
+        ensures lines { self.new.lines ≡ self.old.lines }
         ensures refused { OnErr result (self.new ≡ self.old) }
         ensures law { (t : Told) → StageStands t self.old.stage self.old.weather → in_turn t (of.Opening opening) ≡ true → (told_of result ≡ None) × StageStands (with_record t (of.Opening opening)) self.new.stage self.new.weather }
     {
@@ -58,6 +60,7 @@ impl Intake {
     // Enters what a record says that comes in its turn and is within its limits.
     fn accept(&mut self, record: &Record) -> Result<(), Fault>
         requires { verdict limits «record».now ≡ None }
+        ensures lines { self.new.lines ≡ self.old.lines }
         ensures refused { OnErr result (self.new ≡ self.old) }
         ensures law { (t : Told) → StageStands t self.old.stage self.old.weather → in_turn t «record».now ≡ true → (told_of result ≡ by_book t «record».now) × StageStands (unless_refused (by_book t «record».now) t (with_record t «record».now)) self.new.stage self.new.weather }
     {
@@ -71,6 +74,7 @@ impl Intake {
     // Enters a record by its call on the book.
     fn enter_call(&mut self, record: &Record) -> Result<(), Fault>
         requires { verdict limits «record».now ≡ None }
+        ensures lines { self.new.lines ≡ self.old.lines }
         ensures refused { OnErr result (self.new ≡ self.old) }
         ensures law { (t : Told) → StageStands t self.old.stage self.old.weather → in_turn t «record».now ≡ true → before_book «record».now ≡ false → (told_of result ≡ by_book t «record».now) × StageStands (unless_refused (by_book t «record».now) t (with_record t «record».now)) self.new.stage self.new.weather }
     {

@@ -4,6 +4,7 @@
 mod accept;
 mod calls;
 mod columns;
+mod days;
 mod intake;
 mod opened;
 mod stage;

@@ -1,4 +1,4 @@
-ghost use Rattle.std.specs.Prelude.{◌≡◌, OnErr};
+ghost use Rattle.std.specs.Prelude.{◌≡◌, OnErr, Option};
 ghost use Rattle.by_weather.specs.Figures.{figures, figures_under};
 ghost use Rattle.histories.specs.History.{History, Setting};
 ghost use Rattle.intake.specs.Judging.{book_refusal, call_of, history_with, told_of};

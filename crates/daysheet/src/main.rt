@@ -1,0 +1,34 @@
+// daysheet: lines of a book in, a line for each refusal and each day with a load out.
+#![tactic(auto)]
+
+mod usage;
+
+use anyhow::Context;
+use feed::{Feed, PIECE};
+use std::fs::File;
+use std::io::{BufWriter, Write};
+use std::{env, io};
+use usage::print_usage;
+
+fn main(rt: HostRuntime) -> anyhow::Result<()> {
+    let heap = rt.alloc();
+    let words: Vec<String> = env::args(&rt)?.skip(1).collect(heap)?;
+    if words.iter().any(|word| word.as_str() == "--help") {
+        print_usage(&rt)?;
+        return Ok(());
+    }
+    let mut feed = Feed::new(heap)?;
+    let mut piece = vec![in heap; 0; PIECE]?;
+    let mut output = BufWriter::new(heap, rt.stdout())?;
+    if words.is_empty() {
+        feed.read(&mut rt.stdin(), piece.as_mut_slice(), &mut output)?;
+    }
+    // Several files are one input, as if they stood in one.
+    for path in words.iter() {
+        let mut file = File::open(&rt, path.as_str())?;
+        feed.read(&mut file, piece.as_mut_slice(), &mut output)?;
+    }
+    feed.finish(&mut output)?;
+    output.flush()?;
+    Ok(())
+}
