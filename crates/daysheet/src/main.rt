@@ -3,7 +3,6 @@
 
 mod usage;
 
-use anyhow::Context;
 use feed::{Feed, PIECE};
 use std::fs::File;
 use std::io::{BufWriter, Write};

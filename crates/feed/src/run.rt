@@ -7,7 +7,7 @@ use std::io;
 use std::io::{ErrorKind, Read, Write};
 
 // How many bytes are read at once.
-const PIECE: usize = 65_536;
+pub const PIECE: usize = 65_536;
 
 // Reads once more, as often as a read is interrupted.
 fn read_piece<R: Read>(input: &mut R, piece: &mut [u8]) -> io::Result<usize>
