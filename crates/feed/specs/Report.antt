@@ -1,9 +1,9 @@
 -- The report of an input: a line for each refusal as it occurs, then one for each day with a load.
 use Rattle.std.specs.Prelude.{◌≡◌, ℕ, ◌+◌, List, [], ◌∷◌, ◌++◌, Some, None, Option}
-use Rattle.std.specs.List.{concat, flat_map, range_with_len}
+use Rattle.std.specs.List.{flat_map, range_with_len}
 use Rattle.std.specs.Option.{option_map}
 use Rattle.input_lines.specs.Cut.{lines_of}
-use Rattle.intake.specs.Days.{day_lines}
+use Rattle.intake.specs.Days.{day_line, days_told}
 use Rattle.intake.specs.Lines.{Fail, Said, Says, fail, refusal_of, told_after}
 use Rattle.intake.specs.Told.{Told, unopened}
 use Rattle.report_lines.specs.Texts.{day_text, fail_text}
@@ -32,9 +32,14 @@ abbrev pub told_by : Told → List Says → Told
 told_by t [] = t
 told_by t (x ∷ xs) = told_by (told_after t x) xs
 
+-- the line of a day, if it has a load
+abbrev pub day_shown : Option DayLine → List ℕ
+day_shown None = []
+day_shown (Some d) = line (day_text d.date d.figures)
+
 -- the lines of the days with a load, in the order of their dates
 abbrev pub days_text : Told → List ℕ
-days_text t = flat_map (λ d. line (day_text d.date d.figures)) (day_lines t)
+days_text t = flat_map (λ d. day_shown (day_line t d)) (range_with_len 0 (days_told t))
 
 -- each line says what stands beside it
 pub data AllSaid : List (List ℕ) → List Says → Type 0 where

@@ -1,5 +1,10 @@
-ghost use Rattle.std.specs.Prelude.{[], ◌∷◌, IfOk, OnOk};
-ghost use Rattle.feed.specs.Runs.{Finishes, Runs, Writes};
+ghost use Rattle.std.specs.Prelude.{ℕ, [], ◌∷◌, IfOk, OnOk};
+ghost use Rattle.feed.specs.Report.{day_shown};
+ghost use Rattle.feed.specs.Runs.{Ends, Finishes, Runs, Writes, WritesDays};
+ghost use Rattle.intake.specs.Days.{day_line};
+ghost use Rattle.intake.specs.Stands.{Stands};
+ghost use Rattle.intake.specs.Told.{Told};
+ghost use Rattle.std.specs.Io.KnownBytes.{Appends};
 
 use input_lines::LineStart;
 use intake::Intake;
@@ -28,6 +33,7 @@ impl Feed {
 
     // Takes what the line says that has begun, and writes its refusal if it is refused.
     fn end_line<W: Write>(&mut self, output: &mut W) -> io::Result<()>
+        ensures { OnOk result (Ends self.old self.new (W.contents output.old) (W.contents output.new)) }
     {
         let answer = self.intake.take(self.begun.bytes());
         self.begun.clear();
@@ -58,18 +64,33 @@ impl Feed {
         Ok(())
     }
 
-    // Ends the input: a last piece without a line feed is a line too. Then it writes the days with a load, in the order of their dates.
-    pub fn finish<W: Write>(&mut self, output: &mut W) -> io::Result<()>
-        ensures { OnOk result (Finishes self.old self.new (W.contents output.old) (W.contents output.new)) }
+    // Writes the line of a day of the book, if it has a load.
+    fn write_day<W: Write>(&self, day: u32, output: &mut W) -> io::Result<()>
+        ensures { OnOk result ((k : ℕ) (t : Told) → Stands k t self.now.intake → Appends (W.contents output.old) (W.contents output.new) (day_shown (day_line t day))) }
+    {
+        match self.intake.day(day) {
+            Some(line) => writeln!(output, "{line}"),
+            None => Ok(()),
+        }
+    }
+
+    // Writes the lines of the days with a load, in the order of their dates.
+    fn write_days<W: Write>(&self, output: &mut W) -> io::Result<()>
+        ensures { OnOk result (WritesDays self.now (W.contents output.old) (W.contents output.new)) }
+    {
+        for day in 0..self.intake.days() {
+            self.write_day(day, output)?;
+        }
+        Ok(())
+    }
+
+    // Ends the input: a last piece without a line feed is a line too. Then it writes the days with a load.
+    pub fn finish<W: Write>(mut self, output: &mut W) -> io::Result<()>
+        ensures { OnOk result (Finishes self (W.contents output.old) (W.contents output.new)) }
     {
         if !self.begun.is_empty() {
             self.end_line(output)?;
         }
-        for day in 0..self.intake.days() {
-            if let Some(line) = self.intake.day(day) {
-                writeln!(output, "{line}")?;
-            }
-        }
-        Ok(())
+        self.write_days(output)
     }
 }

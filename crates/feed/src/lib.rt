@@ -5,4 +5,4 @@ mod feed;
 mod run;
 
 pub use feed::Feed;
-pub use run::{PIECE, report};
+pub use run::report;

@@ -1,5 +1,7 @@
-ghost use Rattle.std.specs.Prelude.{◌<◌, length, IfSome, OnOk};
-ghost use Rattle.feed.specs.Runs.{Reads, ReportsAll};
+ghost use Rattle.std.specs.Prelude.{length, IfOk, OnOk};
+ghost use Rattle.std.specs.Io.{ReadsAtMost};
+ghost use Rattle.std.specs.Io.KnownBytes.{ReadConsumes};
+ghost use Rattle.feed.specs.Runs.{ReadsAll, ReadsPiece, ReportsAll};
 
 use super::feed::Feed;
 use std::alloc::Global;
@@ -7,10 +9,12 @@ use std::io;
 use std::io::{ErrorKind, Read, Write};
 
 // How many bytes are read at once.
-pub const PIECE: usize = 65_536;
+const PIECE: usize = 65_536;
 
 // Reads once more, as often as a read is interrupted.
 fn read_piece<R: Read>(input: &mut R, piece: &mut [u8]) -> io::Result<usize>
+    ensures bound { ReadsAtMost result piece.new }
+    ensures bytes { ReadConsumes (R.remaining input.old) (R.remaining input.new) result piece.new }
 {
     // Counted, since nothing says that the interruptions end.
     for _ in 0..u64::MAX {
@@ -23,22 +27,36 @@ fn read_piece<R: Read>(input: &mut R, piece: &mut [u8]) -> io::Result<usize>
 }
 
 impl Feed {
-    // Takes all bytes of an input, piece by piece. What was written so far leaves the writer before each wait for more.
-    pub fn read<R: Read, W: Write>(
+    // Takes one piece of an input, and answers how many bytes it had. What was written so far leaves the writer before the wait.
+    fn take_piece<R: Read, W: Write>(
         &mut self,
         input: &mut R,
         piece: &mut [u8],
         output: &mut W,
-    ) -> io::Result<()>
+    ) -> io::Result<usize>
+        ensures { IfOk result (λ n. ReadsPiece n (length piece.old) (R.remaining input.old) (R.remaining input.new) self.old self.new (W.contents output.old) (W.contents output.new)) }
     {
+        output.flush()?;
+        let count = read_piece(input, piece)?;
+        self.take(&piece[..count], output)?;
+        Ok(count)
+    }
+
+    // Takes all bytes of an input, piece by piece.
+    pub fn read<R: Read, W: Write>(
+        &mut self,
+        heap: Global,
+        input: &mut R,
+        output: &mut W,
+    ) -> io::Result<()>
+        ensures { OnOk result (ReadsAll (R.remaining input.old) (R.remaining input.new) self.old self.new (W.contents output.old) (W.contents output.new)) }
+    {
+        let mut piece = vec![in heap; 0; PIECE]?;
         // Counted, since nothing says that a reader ends.
         for _ in 0..u64::MAX {
-            output.flush()?;
-            let count = read_piece(input, piece)?;
-            if count == 0 {
+            if self.take_piece(input, piece.as_mut_slice(), output)? == 0 {
                 return Ok(());
             }
-            self.take(&piece[..count], output)?;
         }
         Err(io::Error::from(ErrorKind::Other))
     }
@@ -46,10 +64,10 @@ impl Feed {
 
 // Reads an input to its end and writes its report.
 pub fn report<R: Read, W: Write>(heap: Global, input: &mut R, output: &mut W) -> io::Result<()>
+    ensures { OnOk result (ReportsAll (R.remaining input.old) (R.remaining input.new) (W.contents output.old) (W.contents output.new)) }
 {
     let mut feed = Feed::new(heap)?;
-    let mut piece = vec![in heap; 0; PIECE]?;
-    feed.read(input, piece.as_mut_slice(), output)?;
+    feed.read(heap, input, output)?;
     feed.finish(output)?;
     output.flush()
 }

@@ -1,8 +1,6 @@
 -- One line: what it says, and how that is answered. Assumes nothing.
-use Rattle.std.proofs.Common.{◌≡◌, ℕ, ◌+◌, ◌≤◌, min, Bool, true, false, cond, List, [], ◌∷◌, Some, None, Ok, Err, Option, Result, ◌⊎◌, inl, inr, sym, refl, ap, ◌∙◌, subst, arith}
-use Rattle.std.proofs.lemmas.Bool.{false≢true, true≢false}
+use Rattle.std.proofs.Common.{◌≡◌, ℕ, ◌+◌, ◌≤◌, min, Bool, true, false, cond, List, [], ◌∷◌, Some, None, Ok, Err, Option, Result, sym, refl, ap, ◌∙◌, subst, arith}
 use Rattle.std.specs.Option.{option_map, option_or, unwrap_or}
-use Rattle.by_weather.specs.declared.by_weather.ByWeather.{ByWeather}
 use Rattle.limits.specs.Dates.{dates_exist}
 use Rattle.limits.specs.Judging as limit
 use Rattle.limits.specs.Lines.{placed_on}
@@ -14,12 +12,11 @@ use Rattle.refusals.specs.Numbers as refusals
 use Rattle.refusals.specs.Numbers.{number_of, day_named}
 use Rattle.refusals.specs.declared.refusal.Refusal.{Refusal}
 use Rattle.refusals.specs.declared.refusal.Refusal.TheVariants.{MalformedLine, OutOfTurn, BeyondLimits, NoSuchDate, OutsideBook, NegativeEnergy, PointNotEnrolled, PointEnrolledAlready, StartIsNoMark, EndNotAllowed, CoveredDayWithoutLoad, SoftOverFirm, ReadingPlacesFull, AskedDayWithoutLoad, ListTooShort}
-use Rattle.intake.specs.Judging.{Refused, after, by_book, in_turn, judged, out_of_turn, refused_first, told_of, unless_refused, with_record}
-use Rattle.intake.specs.Lines.{Enters, Fail, Said, Says, fail, fail_of, layer_of, malformed_at, record_is, refusal_of, told_after}
+use Rattle.intake.specs.Judging.{Refused, by_book, in_turn, out_of_turn, refused_first, told_of, unless_refused, with_record}
+use Rattle.intake.specs.Lines.{Enters, fail, fail_of, layer_of, malformed_at, record_is}
 use Rattle.intake.specs.Stands.{StageStands, last_number}
 use Rattle.intake.specs.Told.{Told, limits}
 use Rattle.intake.specs.declared.intake.Intake.{Intake}
-use Rattle.intake.specs.declared.stage.Stage.{Stage}
 
 -- the first four refusals name no day
 pub names_none : (e : Refusal) (n : ℕ) → number_of e ≡ n → n ≤ 4 → day_named e ≡ None

@@ -1,5 +1,5 @@
 -- Factors that are told before the opening. Assumes nothing.
-use Rattle.std.proofs.Common.{◌≡◌, ℕ, zero, suc, ◌+◌, ◌-◌, ◌≤◌, Bool, true, false, cond, ◌&&◌, leb, eqb, List, [], ◌∷◌, length, Some, None, Ok, Err, Option, Result, get_or, replicate, set, sym, refl, ap, ◌∙◌, subst, is_ok, arith}
+use Rattle.std.proofs.Common.{◌≡◌, ℕ, zero, suc, ◌-◌, ◌≤◌, Bool, true, false, cond, ◌&&◌, leb, eqb, List, [], ◌∷◌, length, Some, None, Ok, Err, Option, Result, get_or, replicate, set, sym, refl, ap, ◌∙◌, subst, is_ok, arith}
 use Rattle.std.proofs.Common.{◌≢◌, option_and_then}
 use Rattle.std.proofs.Math.Facts.{eqb_no}
 use Rattle.std.proofs.lemmas.Bool.{cond_both, eqb-true, false≢true, true≢false}
@@ -7,12 +7,12 @@ use Rattle.std.proofs.lemmas.Bool.Decides.{nat_tests}
 use Rattle.std.proofs.lemmas.Grind.{get_or-set_at}
 use Rattle.std.proofs.lemmas.List.{get_or-set_other, length-replicate, length-set}
 use Rattle.by_weather.specs.Factors.{entry_within, weather_figure}
-use Rattle.by_weather.specs.Figures.{count_of, factors_of, figures, figures_under}
+use Rattle.by_weather.specs.Figures.{figures, figures_under}
 use Rattle.by_weather.specs.declared.by_weather.ByWeather.{ByWeather}
 use Rattle.by_weather.specs.declared.factors.Factors as weather
 use Rattle.by_weather.specs.Laws as laws
 use Rattle.estimators.specs.Entries.{entry_numbered}
-use Rattle.estimators.specs.Meaning.{Bounded, BoundedUnder, Meaning, weather_within}
+use Rattle.estimators.specs.Meaning.{Bounded, BoundedUnder, weather_within}
 use Rattle.limits.specs.Judging.{verdict}
 use Rattle.records.specs.declared.record.Factors.{Factors}
 use Rattle.records.specs.declared.record.Record.TheVariants as of
@@ -24,7 +24,7 @@ use Rattle.intake.specs.Judging.{in_turn, told_of, with_record}
 use Rattle.intake.specs.Stands.{StageStands, Weathers}
 use Rattle.intake.specs.declared.stage.Stage.{Stage}
 use Rattle.intake.specs.declared.stage.Stage.TheVariants as stage
-use Rattle.intake.specs.Told.{Told, factors_told, limits, no_figure, opened, unopened, weather_told}
+use Rattle.intake.specs.Told.{Told, limits, no_figure, opened, unopened, weather_told}
 
 -- the factors that a record enters
 abbrev pub factors_in : Factors → weather.Factors

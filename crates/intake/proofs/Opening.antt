@@ -1,6 +1,5 @@
 -- A book that a line opens. Assumes nothing.
-use Rattle.std.proofs.Common.{◌≡◌, ℕ, ◌+◌, ◌-◌, ◌*◌, ◌<◌, ◌≤◌, Bool, true, false, cond, not, ◌&&◌, ◌||◌, leb, ltb, List, [], Some, None, Ok, Err, Option, Result, vec_len, sym, refl, ap, ◌∙◌, subst, arith}
-use Rattle.std.proofs.lemmas.Bool.{true≢false}
+use Rattle.std.proofs.Common.{◌≡◌, ℕ, ◌+◌, ◌-◌, ◌*◌, ◌<◌, ◌≤◌, Bool, true, false, cond, not, leb, List, [], Some, None, Ok, Option, Result, vec_len, refl, ap, ◌∙◌, subst, arith}
 use Rattle.std.proofs.lemmas.Bool.Decides.{nat_tests}
 use Rattle.book.specs.Follows.{Beyond, Follows}
 use Rattle.book.specs.Opened.{OpenedAs, opening_refusal, rest_of, setting, short_lists}
@@ -13,21 +12,18 @@ use Rattle.calendar.specs.Gregorian.{days_in_all}
 use Rattle.estimators.specs.Meaning.{Meaning}
 use Rattle.histories.specs.History.{History, Setting}
 use Rattle.ledger.specs.Opened.{beyond}
-use Rattle.ledger.specs.declared.open.Unopened.{Unopened}
 use Rattle.ledger.specs.declared.opening.OpeningRequest.{OpeningRequest}
 use Rattle.limits.proofs.Ends.{last_end}
 use Rattle.limits.specs.Dates.{ends_in_time}
 use Rattle.limits.specs.Judging.{verdict}
-use Rattle.lines.specs.declared.fault.Fault.{Fault}
 use Rattle.records.specs.declared.record.Factors.{Factors}
 use Rattle.records.specs.declared.record.Opening.{Opening}
 use Rattle.records.specs.declared.record.Record.TheVariants as of
 use Rattle.refusals.specs.Answers.{Answers, accepted_since}
 use Rattle.refusals.specs.declared.refusal.Refusal.{Refusal}
 use Rattle.intake.proofs.Factors.{none_bounded, none_yet, weather_bounded, weather_stands}
-use Rattle.intake.specs.Judging.{in_turn, told_of, with_record}
-use Rattle.intake.specs.Stands.{BookStands, Opens, Room, Weathers}
-use Rattle.intake.specs.Told.{limits, no_figure, places, setting_of, weather_told}
+use Rattle.intake.specs.Stands.{BookStands, Room, Weathers}
+use Rattle.intake.specs.Told.{limits, no_figure, setting_of, weather_told}
 
 -- what a book is asked to open with
 abbrev pub request : Opening → OpeningRequest

@@ -1,13 +1,13 @@
 -- One call on the book of an intake: its answer, and what the book has been told with it. Assumes nothing.
-use Rattle.std.proofs.Common.{◌≡◌, ℕ, ◌+◌, ◌-◌, ◌<◌, ◌≤◌, Bool, true, false, T, cond, not, ◌&&◌, leb, ltb, List, [], ◌∷◌, map, take, get_or, is_some, Some, None, Ok, Err, Option, Result, sym, refl, ap, ◌∙◌, subst, arith}
+use Rattle.std.proofs.Common.{◌≡◌, ℕ, ◌+◌, ◌-◌, ◌<◌, ◌≤◌, Bool, true, false, T, cond, not, List, [], ◌∷◌, map, take, get_or, is_some, Some, None, Ok, Err, Option, Result, sym, refl, ap, ◌∙◌, arith}
 use Rattle.std.specs.Option.{option_map, unwrap_or}
 use Rattle.std.specs.Result.{result_ok}
 use Rattle.std.proofs.lemmas.Bool.Decides.{nat_tests}
 use Rattle.book.specs.Replies.{Reply, accepted, answer, day_is, figure_is, granted, refused, reply, says, sum_is, told, unless_refused}
 use Rattle.book.specs.declared.answer.Answer.{Answer}
 use Rattle.book.specs.declared.answer.Answer.TheVariants.{Accepted, Figure, Day, RetailerSum}
-use Rattle.calendar.specs.Digits.{Numbered, date_numbered, day_number_of, is_date}
-use Rattle.histories.specs.Calls.{first_holding, in_book, named_by, place, refusal}
+use Rattle.calendar.specs.Digits.{day_number_of, is_date}
+use Rattle.histories.specs.Calls.{in_book, named_by, place, refusal}
 use Rattle.histories.specs.Figures.{load}
 use Rattle.histories.specs.History.{History, Setting}
 use Rattle.histories.specs.declared.call.Call.{Call}

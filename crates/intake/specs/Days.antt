@@ -1,6 +1,5 @@
 -- The lines of the days with a load.
-use Rattle.std.specs.Prelude.{ℕ, ◌+◌, cond, List, None, Option, option_to_list, nat_lt}
-use Rattle.std.specs.List.{flat_map, range_with_len}
+use Rattle.std.specs.Prelude.{ℕ, ◌+◌, cond, None, Option, nat_lt}
 use Rattle.std.specs.Option.{option_map}
 use Rattle.calendar.specs.Digits.{date_numbered}
 use Rattle.histories.specs.History.{History, Setting}
@@ -21,7 +20,3 @@ book_line s h d =
 abbrev pub day_line : Told → ℕ → Option DayLine
 day_line (unopened fs) d = None
 day_line (opened s h) d = book_line s h d
-
--- the lines of all days with a load, in the order of their dates
-abbrev pub day_lines : Told → List DayLine
-day_lines t = flat_map (λ d. option_to_list (day_line t d)) (range_with_len 0 (days_told t))

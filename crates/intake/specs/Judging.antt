@@ -1,5 +1,5 @@
 -- What a record is refused by, and what it tells where it is not.
-use Rattle.std.specs.Prelude.{◌≡◌, ℕ, Bool, true, false, not, cond, ◌&&◌, ◌||◌, List, [], ◌∷◌, Some, None, Ok, Err, Option, Result, ◌==◌}
+use Rattle.std.specs.Prelude.{ℕ, Bool, true, false, not, cond, ◌&&◌, ◌||◌, [], ◌∷◌, Some, None, Ok, Err, Option, Result, ◌==◌}
 use Rattle.std.specs.Option.{option_map}
 use Rattle.book.specs.Replies as books
 use Rattle.calendar.specs.Digits.{is_date}
@@ -9,7 +9,6 @@ use Rattle.histories.specs.declared.call.Call.{Call}
 use Rattle.histories.specs.declared.call.Call.TheVariants.{Enrol, EnterGate, EnterInterval, EnterDegreeDays, EnterReading}
 use Rattle.limits.specs.Judging.{verdict}
 use Rattle.lines.specs.declared.fault.Fault.{Fault}
-use Rattle.records.specs.declared.record.Reading.{Reading}
 use Rattle.records.specs.declared.record.Record.{Record}
 use Rattle.records.specs.declared.record.Record.TheVariants as of
 use Rattle.refusals.specs.Numbers.{number_of, day_named}

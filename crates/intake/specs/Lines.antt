@@ -1,5 +1,5 @@
 -- What each line says, how it is answered, and what all lines tell.
-use Rattle.std.specs.Prelude.{◌≡◌, ℕ, ◌+◌, min, cond, T, List, [], ◌∷◌, ◌++◌, Some, None, Ok, Err, Option, Result, ◌==◌, nat_le}
+use Rattle.std.specs.Prelude.{◌≡◌, ℕ, ◌+◌, min, cond, T, List, Some, None, Ok, Err, Option, Result, nat_le}
 use Rattle.std.specs.Option.{option_map, unwrap_or}
 use Rattle.limits.specs.declared.line.LineFault.{LineFault}
 use Rattle.lines.specs.Reading.{AtFault}

@@ -1,4 +1,3 @@
-use Rattle.std.proofs.Common.{sym}
 use Rattle.fields.proofs.Exits.{at_exit}
 use Rattle.intake.proofs.Entering.{limits_enter, malformed_enters, record_enters, turn_enters}
 use Rattle.intake.specs.Lines.{Enters}

@@ -1,0 +1,3 @@
+pub mod Days
+pub mod Reading
+pub mod Reporting

@@ -1,0 +1,5 @@
+use Rattle.feed.proofs.Reporting.{nothing_yet}
+use Rattle.feed.proofs.feed.Feed.new.Goals as goal
+
+pub returns : goal.returns
+returns c = nothing_yet _ c.in_ok-new.ensures c.new-2.ensures
