@@ -1,12 +1,12 @@
-// daysheet: lines of a book in, a line for each refusal and each day with a load out.
+// daysheet: the lines of a book in, a line for each refusal and each day with a load out.
 #![tactic(auto)]
 
 mod usage;
 
-use feed::{Feed, PIECE};
+use feed::Feed;
+use std::env;
 use std::fs::File;
 use std::io::{BufWriter, Write};
-use std::{env, io};
 use usage::print_usage;
 
 fn main(rt: HostRuntime) -> anyhow::Result<()> {
@@ -17,15 +17,14 @@ fn main(rt: HostRuntime) -> anyhow::Result<()> {
         return Ok(());
     }
     let mut feed = Feed::new(heap)?;
-    let mut piece = vec![in heap; 0; PIECE]?;
     let mut output = BufWriter::new(heap, rt.stdout())?;
     if words.is_empty() {
-        feed.read(&mut rt.stdin(), piece.as_mut_slice(), &mut output)?;
+        feed.read(heap, &mut rt.stdin(), &mut output)?;
     }
     // Several files are one input, as if they stood in one.
     for path in words.iter() {
         let mut file = File::open(&rt, path.as_str())?;
-        feed.read(&mut file, piece.as_mut_slice(), &mut output)?;
+        feed.read(heap, &mut file, &mut output)?;
     }
     feed.finish(&mut output)?;
     output.flush()?;
