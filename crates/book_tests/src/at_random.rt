@@ -351,6 +351,7 @@ fn places_hold(
                 && reading.start == due.start
                 && reading.end == due.end
                 && reading.energy == due.energy.unsigned_abs()
+                && reading.reading_type == due.reading_type
         });
         assert!(rt; found, "{at}: a held reading");
     }

@@ -125,18 +125,22 @@ pub(crate) fn from_july(days: u32, points: u32) -> OpeningRequest {
     }
 }
 
+// Lists full of sevens, with so many places for readings.
+pub(crate) fn sevens(heap: Global, reading_places: usize) -> Result<Lists, Fail> {
+    Ok(Lists {
+        sheet: vec![in heap; 7; 100]?,
+        intervals: vec![in heap; 7; 500]?,
+        readings: vec![in heap; None; reading_places]?,
+    })
+}
+
 // A book with so many places for readings, and with its lists full of sevens before it was opened.
 pub(crate) fn opened(
     heap: Global,
     request: OpeningRequest,
     reading_places: usize,
 ) -> Result<Book, Fail> {
-    let lists = Lists {
-        sheet: vec![in heap; 7; 100]?,
-        intervals: vec![in heap; 7; 500]?,
-        readings: vec![in heap; None; reading_places]?,
-    };
-    Ok(Book::open(request, lists)?)
+    Ok(Book::open(request, sevens(heap, reading_places)?)?)
 }
 
 // A list begins with some values, and every later place holds the seven that it held.

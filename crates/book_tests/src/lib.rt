@@ -8,6 +8,8 @@ mod beside_plain_estimators;
 #[cfg(test)]
 mod calls;
 #[cfg(test)]
+mod opened_and_served;
+#[cfg(test)]
 mod plain_estimators;
 #[cfg(test)]
 mod recomputed;

@@ -65,13 +65,19 @@ fn actual_over_several_estimates(rt: HostRuntime) -> Result<(), Fail> {
     Ok(())
 }
 
+// Inside what is held, and behind a gap; before there is a reading, every day but the start day.
 #[test]
-fn misaligned_start(rt: HostRuntime) -> Result<(), Fail> {
+fn misaligned_starts(rt: HostRuntime) -> Result<(), Fail> {
     let mut ledger = with_loads(rt.alloc(), 4)?;
-    assert_eq!(rt;
-        ledger.enter_reading(reading(1, 20240702, 20240704, 50, ReadingType::Actual)),
-        Err(Refusal::StartIsNoMark)
-    );
+    ledger.enter_reading(reading(1, 20240701, 20240703, 50, ReadingType::Actual))?;
+    for (point, start) in [(1, 20240702), (1, 20240704), (2, 20240702), (2, 20240703)] {
+        for reading_type in [ReadingType::Actual, ReadingType::Estimated] {
+            assert_eq!(rt;
+                ledger.enter_reading(reading(point, start, 20240705, 50, reading_type)),
+                Err(Refusal::StartIsNoMark)
+            );
+        }
+    }
     Ok(())
 }
 
@@ -114,14 +120,19 @@ fn actual_back_to_an_earlier_mark(rt: HostRuntime) -> Result<(), Fail> {
     Ok(())
 }
 
+// An actual reading that was delayed, and an estimated one.
 #[test]
 fn delayed_inside_a_longer_estimate(rt: HostRuntime) -> Result<(), Fail> {
     let mut ledger = with_loads(rt.alloc(), 4)?;
     ledger.enter_reading(reading(1, 20240701, 20240705, 50, ReadingType::Estimated))?;
-    assert_eq!(rt;
-        ledger.enter_reading(reading(1, 20240701, 20240703, 20, ReadingType::Actual)),
-        Err(Refusal::EndNotAllowed)
-    );
+    for reading_type in [ReadingType::Actual, ReadingType::Estimated] {
+        assert_eq!(rt;
+            ledger.enter_reading(reading(1, 20240701, 20240703, 20, reading_type)),
+            Err(Refusal::EndNotAllowed)
+        );
+    }
+    assert!(rt; ledger.is_mark(1, 4));
+    assert!(rt; !ledger.is_mark(1, 2));
     Ok(())
 }
 
