@@ -1,3 +1,4 @@
 pub mod Days
+pub mod Once
 pub mod Reading
 pub mod Reporting

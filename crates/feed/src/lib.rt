@@ -2,7 +2,9 @@
 #![tactic(auto)]
 
 mod feed;
+mod laws;
 mod run;
 
 pub use feed::Feed;
+pub use laws::each_input_has_one_report;
 pub use run::report;
