@@ -1,0 +1,6 @@
+pub mod Adjusting
+pub mod Asking
+pub mod Limited
+pub mod Loaded
+pub mod Spanned
+pub mod Summed

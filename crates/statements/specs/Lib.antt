@@ -1,0 +1,7 @@
+pub mod Draws
+pub mod Judged
+pub mod Laws
+pub mod Limits
+pub mod Lists
+pub mod Spans
+pub mod Sums
