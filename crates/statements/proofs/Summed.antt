@@ -41,5 +41,5 @@ pub counted_more : (f : ℕ → ℕ) (d n total x : ℕ) → total ≡ min (sum_
 counted_more f d n total x before is = omega (arith, of_one_more f d n)
 
 -- a sum within the limit is counted whole
-pub counted_whole : (n : ℕ) → n ≤ largest_sum → min n largest_sum ≡ n
-counted_whole n within = omega arith
+pub whole : (f : ℕ → ℕ) (d n m : ℕ) → n ≡ m → sum_over f d m ≤ largest_sum → min (sum_over f d n) largest_sum ≡ sum_over f d m
+whole f d n m same within = omega (arith, ap (sum_over f d) same)

@@ -42,7 +42,11 @@ impl Sums {
         requires { 34 ≤ length list.old }
         ensures { list.new ≡ later_list old.now self.now list.old }
     {
-        write_numbers(list, 0, |place| self.at(place) as i64 - old.at(place) as i64);
+        write_numbers(
+            list,
+            0,
+            |place| self.at(place) as i64 - old.at(place) as i64,
+        );
         write_numbers(list, SUMS, |place| self.at(place) as i64);
     }
 }

@@ -3,9 +3,9 @@ ghost use Rattle.std.specs.Result.{IsOkAnd};
 ghost use Rattle.calendar.specs.Digits.{Numbered};
 ghost use Rattle.estimators.specs.Meaning.{Meaning};
 ghost use Rattle.refusals.specs.declared.refusal.Refusal.{Refusal};
-ghost use Rattle.histories.specs.Figures as figures;
 ghost use Rattle.histories.specs.History.{History, Setting};
 ghost use Rattle.book.specs.Follows.{Beyond, Follows};
+ghost use Rattle.statements.specs.Asked.{TellsRemainder};
 ghost use Rattle.statements.specs.Draws.{Loaded};
 ghost use Rattle.statements.specs.Limits.{largest_sum};
 ghost use Rattle.statements.specs.Spans.{DaysOf, sum_over};
@@ -20,7 +20,10 @@ use estimators::Weather;
 use refusals::Refusal;
 
 // What some days come to, each as it is asked by its date.
-pub(crate) fn sum_over<F: Fn(u32) -> Result<u64, Refusal>>(days: Days, ask: F) -> Result<u64, Refusal>
+pub(crate) fn sum_over<F: Fn(u32) -> Result<u64, Refusal>>(
+    days: Days,
+    ask: F,
+) -> Result<u64, Refusal>
     requires { F.IsAlwaysCallable ask }
     ensures fits { IfOk result (λ sum. sum ≤ largest_sum) }
     ensures law { (f : ℕ → ℕ) (d : ℕ) → ((k date : ℕ) (r : Result ℕ Refusal) → k < days.count → Numbered date (days.first + k) → F.post ask date r → r ≡ Result.Ok (f (d + k))) → result ≡ Result.Ok (min (sum_over f d days.count) largest_sum) }
@@ -43,7 +46,7 @@ pub(crate) fn retailer_over(book: &Book, retailer: u32, days: Days) -> Result<u6
 
 // What is left to the host retailer on a day with a load.
 fn remainder_on<E: Weather>(book: &Book, estimator: &E, date: u32) -> Result<u64, Refusal>
-    ensures { (s : Setting) (rest : Beyond) (h : History) → Follows s rest h book.now (E.Estimator.meaning estimator.now) (E.Weather.under estimator.now) → (d n : ℕ) → Numbered date (s.first + d) → d < s.days → figures.load s h d ≡ Option.Some n → result ≡ Result.Ok (figures.remainder s h d n) }
+    ensures { TellsRemainder date book.now (E.Estimator.meaning estimator.now) (E.Weather.under estimator.now) result }
 {
     Ok(book.ask_day(estimator, date)?.remainder)
 }

@@ -48,9 +48,9 @@ returns-then-last-first c =
     let last = accepted_since c.in_ok-last.last (is_date c.args.span.last) (λ n. n ≡ day_number_of c.args.span.last) 4 c.in_ok-last.ensures in
     let before : day_number_of c.args.span.last < day_number_of c.args.span.first = omega (arith, first.1, last.1, c.if-last-first.true) in
     λ m u s rest h f.
-        let from = date_granted s c.args.span.first (c.in_ok-judge_date.ensures m u s rest h f).0 in
-        let to = date_granted s c.args.span.last (c.in_ok-judge_date-2.ensures m u s rest h f).0 in
-        (turned s span first.0 last.0 from.1 to.1 before, refl)
+    let from = date_granted s c.args.span.first (c.in_ok-judge_date.ensures m u s rest h f).0 in
+    let to = date_granted s c.args.span.last (c.in_ok-judge_date-2.ensures m u s rest h f).0 in
+    (turned s span first.0 last.0 from.1 to.1 before, refl)
 
 pub overflow_add-result : goal.overflow_add-result
 overflow_add-result c =
@@ -69,9 +69,9 @@ returns c =
     let last = accepted_since c.in_ok-last.last (is_date c.args.span.last) (λ n. n ≡ day_number_of c.args.span.last) 4 c.in_ok-last.ensures in
     let after : day_number_of c.args.span.first ≤ day_number_of c.args.span.last = omega (arith, first.1, last.1, c.if-last-first.false) in
     λ m u s rest h f.
-        let from = date_granted s c.args.span.first (c.in_ok-judge_date.ensures m u s rest h f).0 in
-        let to = date_granted s c.args.span.last (c.in_ok-judge_date-2.ensures m u s rest h f).0 in
-        let days = its_days s span first.0 last.0 from.1 to.1 after in (
-          granted s span first.0 last.0 from.1 to.1 after,
-          record { first = omega (arith, first.1, days.0); count = omega (arith, first.1, last.1, days.1); within = days.2 },
-        )
+    let from = date_granted s c.args.span.first (c.in_ok-judge_date.ensures m u s rest h f).0 in
+    let to = date_granted s c.args.span.last (c.in_ok-judge_date-2.ensures m u s rest h f).0 in
+    let days = its_days s span first.0 last.0 from.1 to.1 after in (
+      granted s span first.0 last.0 from.1 to.1 after,
+      record { first = omega (arith, first.1, days.0); count = omega (arith, first.1, last.1, days.1); within = days.2 },
+    )
