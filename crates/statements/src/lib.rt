@@ -3,19 +3,23 @@
 
 mod days;
 mod drawing;
+mod final_stage;
 mod judging;
 mod laws;
 mod list;
+mod preliminary;
 mod refused;
+mod revised;
 mod span;
-mod stages;
 mod statement;
 mod summing;
 mod sums;
 
+pub use final_stage::Final;
 pub use laws::{adjustments_lead_on, spans_are_judged_and_summed};
+pub use preliminary::Preliminary;
 pub use refused::Undrawn;
+pub use revised::Revised;
 pub use span::Span;
-pub use stages::{Final, Preliminary, Revised};
 pub use statement::Statement;
 pub use sums::{RETAILERS, SUMS, Sums};
