@@ -1,5 +1,5 @@
 -- Adjustments, and the lists that stages write. Assumes nothing.
-use Rattle.std.proofs.Common.{◌≡◌, ℕ, ◌+◌, ◌-◌, ◌<◌, ◌≤◌, ℤ, pos, ◌+ℤ◌, ◌-ℤ◌, List, [], ◌∷◌, ◌++◌, length, get_or, take, set, drop, sym, refl, ap, ◌∙◌, arith}
+use Rattle.std.proofs.Common.{◌≡◌, ℕ, ◌+◌, ◌-◌, ◌<◌, ℤ, pos, ◌+ℤ◌, ◌-ℤ◌, List, [], ◌∷◌, ◌++◌, length, get_or, take, set, drop, sym, ap, ◌∙◌, arith}
 use lib.Seq.{paste}
 use Rattle.std.proofs.lemmas.Int.{ints}
 use Rattle.std.proofs.lemmas.List.Edits.{paste_all, paste_more}
@@ -8,7 +8,7 @@ use Rattle.std.proofs.lemmas.List.{get_or-append_right, get_or_append_left, drop
 use Rattle.std.proofs.Math.Seq.{drop-append_seam}
 use Rattle.std.proofs.lemmas.Slice.{drop-append-drop}
 use Rattle.statements.specs.Laws.{adjusted, last_of}
-use Rattle.statements.specs.Lists.{adjustment_at, later_list, listed, shown_at}
+use Rattle.statements.specs.Lists.{listed, shown_at}
 use Rattle.statements.specs.declared.sums.Sums.{Sums}
 
 -- the 17 numbers of a function

@@ -1,10 +1,10 @@
 -- What a book answers about a day of a span. Assumes nothing.
-use Rattle.std.proofs.Common.{◌≡◌, ℕ, ◌+◌, ◌<◌, ◌≤◌, Bool, true, false, cond, not, ◌&&◌, ltb, leb, is_some, Some, None, Ok, Err, Option, Result, unwrap_or, sym, refl, ap, ◌∙◌, arith}
+use Rattle.std.proofs.Common.{◌≡◌, ℕ, ◌+◌, ◌<◌, ◌≤◌, Bool, true, false, cond, not, leb, is_some, Some, None, Ok, Err, Option, Result, unwrap_or, sym, refl, ap, ◌∙◌}
 use Rattle.std.specs.Result.{MatchResult}
 use Rattle.std.proofs.lemmas.Bool.{and_from, false≢true, le-leb}
 use Rattle.calendar.proofs.After.{date_numbered_back}
 use Rattle.calendar.specs.Digits.{Numbered, date_numbered, is_date}
-use Rattle.histories.specs.Calls.{between, in_book, named_by, place, refusal, retailers}
+use Rattle.histories.specs.Calls.{between, in_book, named_by, place, retailers}
 use Rattle.histories.specs.Figures.{load, remainder, retailer_sum}
 use Rattle.histories.specs.History.{History, Setting}
 use Rattle.histories.specs.declared.call.Call.TheVariants.{AskDay, AskRetailer}
@@ -13,7 +13,7 @@ use Rattle.refusals.specs.Numbers.{day_named, number_of}
 use Rattle.refusals.specs.declared.refusal.Refusal.{Refusal}
 use Rattle.sheet.specs.Asking.{account}
 use Rattle.sheet.specs.declared.day_figures.DayFigures.{DayFigures}
-use Rattle.book.specs.Replies.{Reply, answer, day_is, granted, refused, sum_is, told, unless_refused}
+use Rattle.book.specs.Replies.{Reply, answer, day_is, refused, sum_is, told, unless_refused}
 use Rattle.statements.specs.Judged.{Judged}
 use Rattle.statements.specs.Spans.{date_refusal, names_none}
 use Rattle.statements.specs.Sums.{remainder_on}

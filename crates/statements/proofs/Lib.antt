@@ -1,5 +1,6 @@
 pub mod Adjusting
 pub mod Asking
+pub mod Balanced
 pub mod Judges
 pub mod Limited
 pub mod Loaded

@@ -1,5 +1,5 @@
 -- In a book that follows a history no sum comes near the largest. Assumes nothing.
-use Rattle.std.proofs.Common.{◌≡◌, ℕ, ◌+◌, ◌-◌, ◌*◌, ◌≤◌, cond, Some, None, Option, unwrap_or, refl, arith}
+use Rattle.std.proofs.Common.{◌≡◌, ℕ, ◌+◌, ◌-◌, ◌≤◌, cond, Some, None, Option, unwrap_or, refl, arith}
 use Rattle.std.proofs.lemmas.Bool.{cond_both}
 use Rattle.estimators.specs.Meaning.{Meaning}
 use Rattle.histories.specs.Figures.{belongs, estimate, figure, figures_sum, load, retailer_sum, under_count}

@@ -2,11 +2,12 @@
 use Rattle.std.specs.Prelude.{◌≡◌, ℕ, ◌+◌, ◌*◌, ◌<◌, ◌≤◌, true, ℤ, pos, ◌+ℤ◌, List, [], ◌∷◌, drop, is_some, None, slice_index_or, nat_lt}
 use Rattle.std.specs.Option.{option_or}
 use Rattle.calendar.specs.Digits.{is_date}
-use Rattle.histories.specs.Calls.{first_holding, first_without_load, place}
+use Rattle.histories.specs.Calls.{Lawful, first_holding, first_without_load, place}
 use Rattle.histories.specs.History.{History, Setting}
-use Rattle.statements.specs.Draws.{draw_refusal}
+use Rattle.statements.specs.Draws.{Loaded, draw_refusal}
 use Rattle.statements.specs.Lists.{adjustment_at, later_list, shown_at}
 use Rattle.statements.specs.Spans.{day_count, days_of, span_refusal, sum_over}
+use Rattle.statements.specs.Sums.{excess_over, load_over, remainder_over, retailers_over}
 use Rattle.statements.specs.declared.span.Span.{Span}
 use Rattle.statements.specs.declared.sums.Sums.{Sums}
 
@@ -48,3 +49,7 @@ pub record SpansAreJudgedAndSummed : Type 0 where
   pub of_parts : (f : ℕ → ℕ) (d m n : ℕ) → sum_over f d (m + n) ≡ sum_over f d m + sum_over f (d + m) n
   pub of_alike : (f g : ℕ → ℕ) (d n : ℕ) → ((k : ℕ) → k < n → f (d + k) ≡ g (d + k)) → sum_over f d n ≡ sum_over g d n
   pub at_most : (f : ℕ → ℕ) (d n most : ℕ) → ((k : ℕ) → k < n → f (d + k) ≤ most) → sum_over f d n ≤ n * most
+
+-- the sums of a span with loads balance: together they come to its loads and its excesses
+abbrev pub StatementsBalance : Type 0
+StatementsBalance = (s : Setting) (h : History) (span : Span) → Lawful s h → Loaded s h span → retailers_over s h span + remainder_over s h span ≡ load_over s h span + excess_over s h span

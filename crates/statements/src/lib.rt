@@ -16,7 +16,7 @@ mod summing;
 mod sums;
 
 pub use final_stage::Final;
-pub use laws::{adjustments_lead_on, spans_are_judged_and_summed};
+pub use laws::{adjustments_lead_on, spans_are_judged_and_summed, statements_balance};
 pub use preliminary::Preliminary;
 pub use refused::Undrawn;
 pub use revised::Revised;

@@ -1,4 +1,4 @@
-use Rattle.std.proofs.Common.{Ok, Err, ap, arith}
+use Rattle.std.proofs.Common.{Ok, Err, ap}
 use Rattle.std.proofs.lemmas.Result.{err_from_is_err_and}
 use Rattle.statements.proofs.Asking.{remainder_given}
 use Rattle.statements.proofs.summing.remainder_on.Goals as goal

@@ -1,4 +1,4 @@
-use Rattle.std.proofs.Common.{◌++◌, take, drop, ap, ◌∙◌, rules, arith}
+use Rattle.std.proofs.Common.{◌++◌, take, drop, ap, ◌∙◌, rules}
 use Rattle.std.proofs.lemmas.Int.{ints}
 use Rattle.statements.specs.Lists.{adjustment_at, listed, shown_at}
 use Rattle.statements.proofs.Adjusting.{second_row}
