@@ -69,6 +69,7 @@ pub(crate) fn sums_over<E: Weather>(book: &Book, estimator: &E, days: Days) -> R
 {
     let remainder = remainder_over(book, estimator, days)?;
     let mut retailers = [0; RETAILERS];
+    // By place: the proof names no array that `iter_mut` goes over.
     for place in 0..RETAILERS {
         retailers[place] = retailer_over(book, place as u32 + 1, days)?;
     }
