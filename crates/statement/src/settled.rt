@@ -1,0 +1,79 @@
+// The month settled: preliminary, final, and revised once.
+use super::calls::{before_final, before_revision, july};
+use super::month::{FIRST, LAST, Month};
+use statements::{Final, Preliminary, Revised, SUMS, Span, Statement, Undrawn};
+use std::alloc::Global;
+
+const JULY: Span = Span {
+    first: FIRST,
+    last: LAST,
+};
+
+// What the stages wrote: sums, and in a later one the adjustments before them.
+#[derive(Clone, Copy, PartialEq, Eq, Debug)]
+pub(crate) struct Settled {
+    pub(crate) preliminary: [i64; SUMS],
+    pub(crate) last: [i64; 2 * SUMS],
+    pub(crate) revised: [i64; 2 * SUMS],
+}
+
+// The final of July, from the preliminary. Where it cannot be drawn the settlement ends with what there is.
+fn finalise(
+    month: &mut Month,
+    heap: Global,
+    stage: Preliminary,
+    list: &mut [i64],
+) -> anyhow::Result<Final> {
+    if let Err(e) = month.tell(heap, &before_final()) {
+        stage.settle();
+        return Err(e);
+    }
+    match stage.draw_final(&month.book, &month.estimator, list) {
+        Ok(next) => Ok(next),
+        Err(Undrawn { refusal, stage }) => {
+            stage.settle();
+            Err(refusal.into())
+        }
+    }
+}
+
+// The revision of July, from the final.
+fn revise(
+    month: &mut Month,
+    heap: Global,
+    stage: Final,
+    list: &mut [i64],
+) -> anyhow::Result<Revised> {
+    if let Err(e) = month.tell(heap, &before_revision()) {
+        stage.settle();
+        return Err(e);
+    }
+    match stage.draw_revision(&month.book, &month.estimator, list) {
+        Ok(next) => Ok(next),
+        Err(Undrawn { refusal, stage }) => {
+            stage.settle();
+            Err(refusal.into())
+        }
+    }
+}
+
+// All stages of July, one after another.
+pub(crate) fn settle(heap: Global) -> anyhow::Result<(Settled, Statement)> {
+    let mut settled = Settled {
+        preliminary: [0; SUMS],
+        last: [0; 2 * SUMS],
+        revised: [0; 2 * SUMS],
+    };
+    let mut month = Month::open(heap)?;
+    let calls = july(heap)?;
+    month.tell(heap, calls.as_slice())?;
+    let preliminary = Preliminary::draw(
+        &month.book,
+        &month.estimator,
+        JULY,
+        &mut settled.preliminary,
+    )?;
+    let last = finalise(&mut month, heap, preliminary, &mut settled.last)?;
+    let revised = revise(&mut month, heap, last, &mut settled.revised)?;
+    Ok((settled, revised.settle()))
+}

@@ -1,0 +1,5 @@
+use Rattle.statements.proofs.Balanced.{balance}
+use Rattle.statements.proofs.laws.statements_balance.Goals as goal
+
+pub returns : goal.returns
+returns c = balance
