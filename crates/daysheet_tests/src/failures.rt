@@ -47,7 +47,7 @@ fn failed_reads(rt: HostRuntime) -> Result<(), Fail> {
     ];
     for (steps, wanted) in [(&at_once[..], ""), (&later[..], TWO_DAYS.refusals)] {
         let mut text = Vec::new(heap);
-        let answer = report(heap, &mut Steps { rest: steps }, &mut text);
+        let answer = report(heap, &mut Steps::new(steps), &mut text);
         let kind = answer.err().map(|error| error.kind());
         assert_eq!(rt; kind, Some(ErrorKind::ConnectionReset));
         assert_eq!(rt; text.as_slice(), wanted.as_bytes());

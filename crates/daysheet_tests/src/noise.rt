@@ -32,7 +32,7 @@ fn bytes_at_random(heap: Global, draws: &mut Draws) -> Result<Vec<u8>, AllocErro
     for _ in 0..draws.below(1_000) {
         let byte = match draws.below(10) {
             0 => b'\n',
-            _ => draws.below(256) as u8,
+            _ => u8::try_from(draws.below(256)).unwrap_or(0),
         };
         bytes.push(byte)?;
     }

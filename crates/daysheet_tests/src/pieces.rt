@@ -49,13 +49,12 @@ fn pieces_of_any_size(rt: HostRuntime) -> Result<(), Fail> {
 fn two_inputs_are_one(rt: HostRuntime) -> Result<(), Fail> {
     let heap = rt.alloc();
     let input = mixed_input(heap)?;
-    let mut piece = [0; 64];
     for cut in 0..=input.len() {
         let (mut first, mut second) = input.as_slice().split_at(cut);
         let mut text = Vec::new(heap);
         let mut feed = Feed::new(heap)?;
-        feed.read(&mut first, &mut piece, &mut text)?;
-        feed.read(&mut second, &mut piece, &mut text)?;
+        feed.read(heap, &mut first, &mut text)?;
+        feed.read(heap, &mut second, &mut text)?;
         feed.finish(&mut text)?;
         assert_eq!(rt; text.as_slice(), MIXED_REPORT.as_bytes(), "{cut}");
     }
@@ -67,6 +66,7 @@ fn two_inputs_are_one(rt: HostRuntime) -> Result<(), Fail> {
 fn interrupted_reads(rt: HostRuntime) -> Result<(), Fail> {
     let heap = rt.alloc();
     let input = mixed_input(heap)?;
+    assert!(rt; input.len() >= 50);
     let (start, end) = input.as_slice().split_at(50);
     let again = Step::Fails(ErrorKind::Interrupted);
     let steps = [
@@ -78,7 +78,7 @@ fn interrupted_reads(rt: HostRuntime) -> Result<(), Fail> {
         again,
     ];
     let mut text = Vec::new(heap);
-    report(heap, &mut Steps { rest: &steps }, &mut text)?;
+    report(heap, &mut Steps::new(&steps), &mut text)?;
     assert_eq!(rt; text.as_slice(), MIXED_REPORT.as_bytes());
     Ok(())
 }

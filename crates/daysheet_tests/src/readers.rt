@@ -43,15 +43,22 @@ pub(crate) enum Step<'a> {
 // Takes one step after another at each read, and is then at its end. No step gives more bytes than are read at once.
 #[derive(Drop)]
 pub(crate) struct Steps<'a> {
-    pub(crate) rest: &'a [Step<'a>],
+    steps: &'a [Step<'a>],
+    taken: usize,
+}
+
+impl<'a> Steps<'a> {
+    pub(crate) fn new(steps: &'a [Step<'a>]) -> Steps<'a> {
+        Steps { steps, taken: 0 }
+    }
 }
 
 impl Read for Steps<'_> {
     fn read(&mut self, piece: &mut [u8]) -> io::Result<usize> {
-        let Some((step, rest)) = self.rest.split_first() else {
+        let Some(step) = self.steps.get(self.taken) else {
             return Ok(0);
         };
-        self.rest = rest;
+        self.taken = self.taken.saturating_add(1);
         match *step {
             Step::Gives(bytes) => {
                 let count = bytes.len().min(piece.len());
