@@ -25,10 +25,9 @@ impl Feed {
     pub fn new(heap: Global) -> Result<Feed, AllocError>
         ensures { IfOk result (λ feed. Runs [] [] feed) }
     {
-        Ok(Feed {
-            intake: Intake::new(heap)?,
-            begun: LineStart::new(),
-        })
+        let intake = Intake::new(heap)?;
+        let begun = LineStart::new();
+        Ok(Feed { intake, begun })
     }
 
     // Takes what the line says that has begun, and writes its refusal if it is refused.

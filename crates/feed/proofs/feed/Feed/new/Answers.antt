@@ -2,4 +2,4 @@ use Rattle.feed.proofs.Reporting.{nothing_yet}
 use Rattle.feed.proofs.feed.Feed.new.Goals as goal
 
 pub returns : goal.returns
-returns c = nothing_yet _ c.in_ok-new.ensures c.new-2.ensures
+returns c = nothing_yet _ c.in_ok-intake.ensures c.new-begun.ensures
