@@ -17,6 +17,7 @@ abbrev pub book_line : Setting → History → ℕ → Option DayLine
 book_line s h d =
     cond (nat_lt d s.days) (option_map (λ figures. record { date = date_numbered (s.first + d); figures = figures }) (day_account s h d)) None
 
+-- the same of what has been told; before there is a book there is no day
 abbrev pub day_line : Told → ℕ → Option DayLine
 day_line (unopened fs) d = None
 day_line (opened s h) d = book_line s h d

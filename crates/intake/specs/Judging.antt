@@ -30,6 +30,7 @@ before_book (of.IntervalEnergy r) = false
 before_book (of.DegreeDays r) = false
 before_book (of.Reading r) = false
 
+-- a record comes in its turn
 abbrev pub in_turn : Told → Record → Bool
 in_turn (unopened fs) x = before_book x
 in_turn (opened s h) x = not (before_book x)
@@ -70,6 +71,7 @@ abbrev pub book_refusal : Setting → History → Record → Option Call → Opt
 book_refusal s h x None = None
 book_refusal s h x (Some c) = option_map (λ n. record { number = n; column = book_column s x n; day = named_by s h c n }) (refusal s h c)
 
+-- the same of what has been told; before there is a book it refuses nothing
 abbrev pub by_book : Told → Record → Option Refused
 by_book (unopened fs) x = None
 by_book (opened s h) x = book_refusal s h x (call_of x)
@@ -79,18 +81,20 @@ abbrev pub refused_first : Option (ℕ × ℕ) → Option Refused → Option Ref
 refused_first (Some at) later = Some (record { number = at.0; column = at.1; day = None })
 refused_first None later = later
 
--- the refusal of a record: out of turn, else beyond its limits or with a date that does not exist, else the book's; none where it is accepted
+-- a record out of its turn, at the tag
 abbrev pub out_of_turn : Refused
 out_of_turn = record { number = 2; column = 1; day = None }
 
+-- the refusal of a record: out of turn, else beyond its limits or with a date that does not exist, else the book's; none where it is accepted
 abbrev pub judged : Told → Record → Option Refused
 judged t x = cond (in_turn t x) (refused_first (verdict limits x) (by_book t x)) (Some out_of_turn)
 
--- what has been told with a record that is accepted: factors before the others, a book opened, or the book's history with a call
+-- a history with a call, if there is one
 abbrev pub history_with : Setting → History → Option Call → History
 history_with s h None = h
 history_with s h (Some c) = books.after s h c
 
+-- what has been told with a record that is accepted: its factors before the others, a book opened, or the book's history with its call
 abbrev pub with_record : Told → Record → Told
 with_record (unopened fs) (of.Opening o) = opened (setting_of fs o) []
 with_record (unopened fs) (of.Factors f) = unopened (f ∷ fs)
@@ -101,11 +105,12 @@ with_record (unopened fs) (of.DegreeDays r) = unopened fs
 with_record (unopened fs) (of.Reading r) = unopened fs
 with_record (opened s h) x = opened s (history_with s h (call_of x))
 
--- a refused record tells nothing
+-- what is refused tells nothing
 abbrev pub unless_refused : Option Refused → Told → Told → Told
 unless_refused None t with_it = with_it
 unless_refused (Some r) t with_it = t
 
+-- what has been told after a record
 abbrev pub after : Told → Record → Told
 after t x = unless_refused (judged t x) t (with_record t x)
 

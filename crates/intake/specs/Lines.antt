@@ -53,12 +53,13 @@ abbrev pub fail_of : Result (Unit {0}) LineFault → Option Fail
 fail_of (Ok x) = None
 fail_of (Err f) = Some (record { line = f.line; layer = layer_number f.layer; number = number_of f.refusal; column = f.column; day = unwrap_or (day_named f.refusal) 0 })
 
--- a line is entered, or refused as the rules refuse what it says; and what has been told with it stands
+-- a line is entered, or refused as the rules refuse what it says; and what has been told after it stands
 abbrev pub Enters : List ℕ → Result (Unit {0}) Fault → Intake → Intake → Type 0
 Enters bytes r old new =
     (t : Told) → StageStands t old.stage old.weather
     → (says : Says) × Said bytes says × (told_of r ≡ refusal_of t says) × StageStands (told_after t says) new.stage new.weather
 
+-- the same of a line after k others, with its number
 abbrev pub Takes : List ℕ → Result (Unit {0}) LineFault → Intake → Intake → Type 0
 Takes bytes r old new =
     (k : ℕ) (t : Told) → Stands k t old

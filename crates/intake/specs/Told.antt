@@ -15,10 +15,11 @@ pub data Told : Type 0 where
   unopened : List Factors → Told
   opened : Setting → History → Told
 
--- the largest book that lines can open, and the places that it has for readings
+-- the largest book that lines can open
 abbrev pub limits : Limits
 limits = record { days = 62; points = 32 }
 
+-- the places that it has for readings
 abbrev pub places : ℕ
 places = 256
 
