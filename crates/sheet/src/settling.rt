@@ -9,7 +9,7 @@ ghost use Rattle.sheet.specs.Told.{EstimatesOn, ShowsDay, ShowsSupplied, Told};
 use super::scaling::scale;
 use super::sources::Sources;
 use super::state::Sheet;
-use estimators::{Estimator, POINTS};
+use estimators::Estimator;
 use ledger::Ledger;
 use sharing::EstimatedPoint;
 
@@ -98,6 +98,21 @@ impl Sheet {
         scale(self.loads[day as usize], supplied, rows);
     }
 
+    // Works out the generated figures of a day of the sheet anew, at N points at most.
+    fn settle_in_room<E: Estimator, const N: usize>(&mut self, sources: &Sources<'_, E>, day: u32)
+        requires day { HasDay self.old day }
+        requires room { (self.old.points ≤ N) × (N ≤ 256) }
+        ensures stands { OnlyDays day (day + 1) self.old self.new }
+        ensures law { (s : Setting) (h : History) → Told s h sources.now.ledger.now self.old → EstimatesOn s h day (E.Estimator.meaning sources.now.estimator.now) → day < s.days → ShowsSupplied s h self.old day → ShowsDay s h self.new day }
+    {
+        // An array of fixed size, since a sheet allocates nothing.
+        let mut all = [NOTHING; N];
+        let all = &mut all[..];
+        let rows = &mut all[0..self.points as usize];
+        self.generate(sources, day, rows);
+        self.show_generated(sources.ledger, day, rows);
+    }
+
     // Works out the generated figures of a day anew, beside the supplied ones that the sheet shows.
     pub(crate) fn settle_day<E: Estimator>(&mut self, sources: &Sources<'_, E>, day: u32)
         ensures stands { OnlyDays day (day + 1) self.old self.new }
@@ -107,10 +122,11 @@ impl Sheet {
         if day >= self.days {
             return;
         }
-        // An array of fixed size, since a sheet allocates nothing.
-        let mut all = [NOTHING; POINTS as usize];
-        let rows = &mut all[0..self.points as usize];
-        self.generate(sources, day, rows);
-        self.show_generated(sources.ledger, day, rows);
+        // As for a reading: a small area has no room made for 256 points.
+        if self.points <= 32 {
+            self.settle_in_room::<E, 32>(sources, day);
+        } else {
+            self.settle_in_room::<E, 256>(sources, day);
+        }
     }
 }

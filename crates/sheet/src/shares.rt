@@ -10,7 +10,6 @@ ghost use Rattle.sheet.specs.Shares.{LiesIn, SharesShown, shares_of, weights_of}
 ghost use Rattle.sheet.specs.Told.{Told};
 
 use super::state::Sheet;
-use estimators::DAYS;
 use histories::Reading;
 use loads::weight_of;
 use sharing::{ReadingDay, share};
@@ -70,15 +69,31 @@ impl Sheet {
         self.show_shares(reading.point, reading.start, rows);
     }
 
+    // The same of a reading of N days at most.
+    fn share_in_room<const N: usize>(&mut self, reading: &Reading)
+        requires lies { LiesIn self.old reading.now }
+        requires room { (reading.now.end - reading.now.start ≤ N) × (N ≤ 400) }
+        ensures stands { OnlyDays reading.now.start reading.now.end self.old self.new }
+        ensures law { (s : Setting) (h : History) (l : Ledger) → Told s h l self.old → can_share largest_day_weight reading.now.energy (law.weights s h reading.now) ≡ true → SharesShown s h reading.now self.old self.new }
+    {
+        // An array of fixed size, since a sheet allocates nothing.
+        let mut rows = [UNSHARED; N];
+        let rows = &mut rows[..];
+        let days = (reading.end - reading.start) as usize;
+        self.share_on_rows(reading, &mut rows[0..days]);
+    }
+
     // Shares the energy of a reading over its days by their weights, and shows the shares.
     pub(crate) fn share_reading(&mut self, reading: &Reading)
         requires { LiesIn self.old reading.now }
         ensures stands { OnlyDays reading.now.start reading.now.end self.old self.new }
         ensures law { (s : Setting) (h : History) (l : Ledger) → Told s h l self.old → can_share largest_day_weight reading.now.energy (law.weights s h reading.now) ≡ true → SharesShown s h reading.now self.old self.new }
     {
-        // An array of fixed size, since a sheet allocates nothing.
-        let mut rows = [UNSHARED; DAYS as usize];
-        let days = (reading.end - reading.start) as usize;
-        self.share_on_rows(reading, &mut rows[0..days]);
+        // An array is filled before it is used: a month's reading has no room made for 400 days.
+        if reading.end - reading.start <= 32 {
+            self.share_in_room::<32>(reading);
+        } else {
+            self.share_in_room::<400>(reading);
+        }
     }
 }
