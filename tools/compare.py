@@ -348,10 +348,16 @@ def million_lines():
 
 
 def seconds(program, path):
+    """How long a run took by the clock, and how much of it on a processor, which others that run beside it do not lengthen so much."""
     with open(path, "rb") as file:
         clock = time.perf_counter()
-        subprocess.run([program], stdin=file, stdout=subprocess.DEVNULL, check=True)
-        return time.perf_counter() - clock
+        ran = subprocess.Popen([program], stdin=file, stdout=subprocess.DEVNULL)
+        _, status, used = os.wait4(ran.pid, 0)
+        taken = time.perf_counter() - clock
+    ran.returncode = os.waitstatus_to_exitcode(status)
+    if ran.returncode:
+        sys.exit(f"{program} ended with status {ran.returncode}")
+    return taken, used.ru_utime + used.ru_stime
 
 
 def peak(program, path):
@@ -387,11 +393,14 @@ def take_times(programs, rounds):
             for program, list_of in zip(programs, taken):
                 list_of.append(seconds(program, lines))
         print(f"1,000,000 lines, {rounds} rounds by turns")
-        print(f"{'':<10}{'best s':>10}{'median s':>10}{'KiB':>10}{'KiB at one line of the same length':>38}")
+        print(f"{'':<10}{'best s':>10}{'median s':>10}{'processor s':>13}{'KiB':>8}{'KiB at one line of the same length':>36}")
         for name, program, list_of in zip(["ours", "baseline"], programs, taken):
-            median = sorted(list_of)[len(list_of) // 2]
-            print(f"{name:<10}{min(list_of):>10.3f}{median:>10.3f}{peak(program, lines):>10}{peak(program, one_line):>38}")
-        print(f"ours takes {min(taken[0]) / min(taken[1]):.2f} times the baseline's time, by the best of each")
+            clocks, used = zip(*list_of)
+            median = sorted(clocks)[len(clocks) // 2]
+            held = f"{peak(program, lines):>8}{peak(program, one_line):>36}"
+            print(f"{name:<10}{min(clocks):>10.3f}{median:>10.3f}{min(used):>13.3f}{held}")
+        ours, theirs = (min(used for _, used in list_of) for list_of in taken)
+        print(f"ours takes {ours / theirs:.2f} times the baseline's time, by the least processor time of each")
     return 0
 
 
