@@ -2,13 +2,13 @@
 #![tactic(auto)]
 
 #[cfg(test)]
+mod beyond;
+#[cfg(test)]
 mod books;
 #[cfg(test)]
 mod draws;
 #[cfg(test)]
 mod failures;
-#[cfg(test)]
-mod fields;
 #[cfg(test)]
 mod held;
 #[cfg(test)]
@@ -16,7 +16,7 @@ mod inputs;
 #[cfg(test)]
 mod lengths;
 #[cfg(test)]
-mod limits;
+mod malformed;
 #[cfg(test)]
 mod noise;
 #[cfg(test)]
