@@ -14,7 +14,7 @@ use Rattle.sheet_laws.proofs.Bounds.{figure_bounded, sum_bounded}
 use Rattle.sheet.specs.Asking.{Limited, account, day_account}
 use Rattle.sheet.specs.Cells.{cell}
 use Rattle.sheet.specs.Sums.{counted_sum}
-use Rattle.sheet.specs.Told.{ShowsDay, ShowsSupplied}
+use Rattle.sheet.specs.Showing.{ShowsDay, ShowsSupplied}
 use Rattle.sheet.specs.declared.day_figures.DayFigures.{DayFigures}
 use Rattle.sheet.specs.declared.state.Sheet.{Sheet}
 use Rattle.sheet.proofs.Generating.{supplied_shown}

@@ -1,15 +1,18 @@
 -- The generated figures of a day, from what a sheet shows. Assumes nothing.
-use Rattle.std.proofs.Common.{◌≡◌, ℕ, ◌+◌, ◌-◌, ◌<◌, ◌≤◌, true, false, cond, List, map, get_or, is_some, Some, None, sum, Option, unwrap_or, sym, refl, ap, ◌∙◌, ⊎_elim, arith}
+use Rattle.std.proofs.Common.{◌≡◌, ℕ, ◌+◌, ◌-◌, ◌*◌, ◌<◌, ◌≤◌, true, false, cond, List, map, get_or, is_some, Some, None, sum, vec_items, Option, unwrap_or, sym, refl, ap, ◌∙◌, ⊎_elim, arith}
 use Rattle.std.proofs.lemmas.Bool.{cases_eq}
 use Rattle.std.specs.List.{range_with_len}
 use Rattle.std.specs.Option.{option_map}
+use Rattle.figure_laws.proofs.Balanced.{supplied_shows}
 use Rattle.figure_laws.proofs.Over.{map_over}
-use Rattle.histories.specs.Figures.{share_on, supplied, supplied_sum}
+use Rattle.histories.specs.Figures.{figure, generated, share_on, supplied, supplied_sum}
 use Rattle.histories.specs.History.{History, Setting, covering}
 use Rattle.histories.specs.declared.entry.Reading.{Reading}
 use Rattle.sheet.specs.Cells.{cell}
 use Rattle.sheet.specs.Sums.{counted_sum}
-use Rattle.sheet.specs.Told.{ShowsSupplied}
+use Rattle.sheet.specs.Learning.{WithNote}
+use Rattle.sheet.specs.Showing.{ShowsDay, ShowsSupplied}
+use Rattle.sheet.specs.declared.day_note.DayNote.{DayNote}
 use Rattle.sheet.specs.declared.state.Sheet.{Sheet}
 use Rattle.sheet.proofs.Writing.{Written, written_here, written_other}
 
@@ -61,3 +64,20 @@ supplied_shown s h b d many shows =
     go p low high None e = rw e refl
     go p low high (Some r) e =
         ap (λ o. cond (is_some o) (cell b p d) 0) e ∙ shows p (share_on s h d r) low high (ap (option_map (share_on s h d)) e) ∙ ap (λ o. unwrap_or (option_map (share_on s h d) o) 0) (sym e)
+
+-- a day shows its figures once the points that no reading covers show the generated ones, and a note is made of it
+pub generated_shows : (s : Setting) (h : History) (d : ℕ) {note : DayNote} (old b new : Sheet) (rows : List ℕ) → ShowsSupplied s h old d
+    → ((p : ℕ) → 1 ≤ p → p ≤ s.points → cell b p d ≡ cond (is_some (covering h p d)) (cell old p d) (get_or rows (p - 1) 0)) → rows ≡ generated s h d
+    → WithNote d note b new → ShowsDay s h new d
+generated_shows s h d old b new rows supplied_shown shown is w p low high = same ∙ shown p low high ∙ go (covering h p d) refl
+  where
+    same : cell new p d ≡ cell b p d
+    same = λ i. get_or (vec_items (w.figures i)) (d * w.points i + (p - 1)) 0
+
+    go : (o : Option Reading) → covering h p d ≡ o → cond (is_some (covering h p d)) (cell old p d) (get_or rows (p - 1) 0) ≡ figure s h p d
+    go None e =
+        ap (λ o. cond (is_some o) (cell old p d) (get_or rows (p - 1) 0)) e ∙ ap (λ fs. get_or fs (p - 1) 0) is
+        ∙ sym (ap (λ o. unwrap_or (option_map (share_on s h d) o) (get_or (generated s h d) (p - 1) 0)) e)
+    go (Some r) e =
+        ap (λ o. cond (is_some o) (cell old p d) (get_or rows (p - 1) 0)) e ∙ supplied_shown p (share_on s h d r) low high (ap (option_map (share_on s h d)) e)
+        ∙ sym (supplied_shows s h p d r e)

@@ -1,5 +1,5 @@
 -- Readings over a day, shared anew one after another. Assumes nothing.
-use Rattle.std.proofs.Common.{◌≡◌, ℕ, ◌+◌, ◌*◌, ◌<◌, ◌≤◌, min, max, Bool, true, false, cond, ◌&&◌, List, length, get_or, Some, None, vec_items, Option, sym, refl, ap, ◌∙◌, subst, ⊎_elim, mul-le-mul_right, arith}
+use Rattle.std.proofs.Common.{◌≡◌, ℕ, ◌+◌, ◌*◌, ◌<◌, ◌≤◌, min, max, Bool, true, false, cond, ◌&&◌, List, length, get_or, is_some, Some, None, vec_items, Option, sym, refl, ap, ◌∙◌, subst, ⊎_elim, mul-le-mul_right, arith}
 use Rattle.std.proofs.lemmas.Bool.{and_parts, both_ways, cases_Bool, cases_lt, cond-false, cond-true}
 use Rattle.histories.specs.Figures.{share_on, weights}
 use Rattle.histories.specs.History.{History, Setting, covering, covers}
@@ -83,6 +83,7 @@ pub record SharedTo (s : Setting) (h : History) (places : List (Option Reading))
   pub shared : (k : ℕ) (r : Reading) → k < i → get_or places k None ≡ Some r → covers r r.point day ≡ true
       → (from ≤ r.start) × (r.end ≤ to) × ((d : ℕ) → covers r r.point d ≡ true → cell now r.point d ≡ share_on s h d r)
   pub kept : (p d : ℕ) (r : Reading) → covering h p d ≡ Some r → covers r r.point day ≡ false → cell now p d ≡ cell old p d
+  pub free : (p d : ℕ) → 1 ≤ p → p ≤ s.points → is_some (covering h p d) ≡ false → cell now p d ≡ cell old p d
 
 -- what a place tells of the reading found in it
 module _ (b : Sheet) (day : ℕ) where
@@ -119,6 +120,7 @@ module _ {s : Setting} {h : History} {l : Ledger} {old b : Sheet} (day i from to
         ⊎_elim (λ (before : k < i). so_far.shared k r before is covering)
         (λ (not_before : i ≤ k). absurd (none r (ap (λ n. get_or (vec_items l.places) n None) (omega arith) ∙ is) covering)) (cases_lt k i);
     kept = so_far.kept;
+    free = so_far.free;
   }
 
   -- one more place, with a reading over the day
@@ -160,6 +162,11 @@ module _ {s : Setting} {h : History} {l : Ledger} {old b : Sheet} (day i from to
           let same = same_covering told p d reading r reading_held found.0 also found.1 in
           absurd (both_ways _ apart (ap (λ x. covers x x.point day) (sym same) ∙ over)))
           (λ (not_this : covers reading p d ≡ false). now ∙ cond-false _ _ _ not_this ∙ so_far.kept p d r covering apart) (cases_Bool (covers reading p d));
+      free = λ p d low high none.
+          ⊎_elim
+          (λ (also : covers reading p d ≡ true).
+          absurd (both_ways (is_some (covering h p d)) none (ap is_some (held_covering s h told.lawful p d reading reading_held also))))
+          (λ (apart : covers reading p d ≡ false). shown p d low high ∙ cond-false _ _ _ apart ∙ so_far.free p d low high none) (cases_Bool (covers reading p d));
     }
 
 -- what holds of two days and a sheet holds of equal ones
@@ -177,6 +184,7 @@ shared_all {s} {h} {l} {old} {new} day i from to told all so_far = record {
       let shown = so_far.shared place.0 r (omega (arith, place.1)) place.2 over in
       ap (λ q. cell new q d) (sym point) ∙ shown.2 d (ap (λ q. covers r q d) point ∙ found.1);
   kept = so_far.kept;
+  free = so_far.free;
   between = λ d together.
       let some = some_among (λ r. covers r r.point d && covers r r.point day) (held_of h) together in
       let r = some.0 in

@@ -3,6 +3,7 @@ pub mod Counting
 pub mod Generating
 pub mod Joining
 pub mod Keeping
+pub mod Notes
 pub mod Opened
 pub mod Present
 pub mod Reworked

@@ -1,7 +1,7 @@
 -- A sheet that is worked out anew stands as the longer history leaves it. Assumes nothing.
-use Rattle.std.proofs.Common.{◌≡◌, ℕ, ◌+◌, ◌-◌, ◌*◌, ◌<◌, ◌≤◌, max, true, false, cond, ◌&&◌, eqb, ltb, leb, ◌∷◌, length, get_or, drop, set, is_some, Some, None, vec_items, Option, Vec, unwrap_or, sym, refl, ap, ◌∙◌, subst, inl, inr, ⊎_elim, arith, List}
+use Rattle.std.proofs.Common.{◌≡◌, ℕ, ◌+◌, ◌-◌, ◌*◌, ◌<◌, ◌≤◌, max, true, false, cond, ◌&&◌, eqb, ltb, leb, ◌∷◌, length, get_or, drop, set, replicate, is_some, Some, None, vec_items, Option, Vec, unwrap_or, sym, refl, ap, ◌∙◌, subst, inl, inr, ⊎_elim, arith, List}
 use Rattle.std.proofs.lemmas.List.{get_or-set_other, get_or-set_same}
-use Rattle.std.proofs.lemmas.Bool.{and_from, and_left, and_parts, and_right, cases_Bool, cases_eq, cases_lt, le-leb, le-ltb, lt-leb, lt-ltb, ltb-true}
+use Rattle.std.proofs.lemmas.Bool.{and_from, and_left, and_parts, and_right, both_ways, cases_Bool, cases_eq, cases_lt, le-leb, le-ltb, lt-leb, lt-ltb, ltb-true}
 use Rattle.std.specs.Option.{option_map, option_or}
 use Rattle.std.specs.declared.alloc.Global.{Global}
 use Rattle.figure_laws.proofs.Balanced.{supplied_shows}
@@ -26,10 +26,15 @@ use Rattle.sheet_laws.specs.CoveredTo.{CoveredTo}
 use Rattle.sheet_laws.specs.LoadMoved.{LoadMoved}
 use Rattle.sheet.specs.Cells.{OnlyDays, cell}
 use Rattle.sheet.specs.Learning.{WithCover, WithLoad}
+use Rattle.sheet.specs.Noted.{Noted, NotesStand, Ready, Settled}
 use Rattle.sheet.specs.Shares.{SharedOver, SharesShown, lies_in}
-use Rattle.sheet.specs.Told.{ShowsDay, ShowsSupplied, Stands, Told}
+use Rattle.sheet.specs.Showing.{ShowsDay, ShowsSupplied}
+use Rattle.sheet.specs.Told.{Stands, Told}
+use Rattle.sheet.specs.declared.day_note.DayNote.TheVariants.{Unsettled}
 use Rattle.sheet.specs.declared.state.Sheet.{Sheet}
 use Rattle.sheet.proofs.Keeping.{told_only}
+use Rattle.sheet.proofs.Notes.{count_kept, load_kept, note_outside, noted_kept, reading_kept}
+use Rattle.sheet.proofs.Opened.{nothing_noted, read_of_one}
 use Rattle.sheet.proofs.Stretches.{Outside, beyond_stands, cell_stands, only_again}
 
 -- the days from one day up to another are shown anew, and all others stand under the longer history
@@ -37,6 +42,7 @@ pub record Reworking (s : Setting) (h new : History) (from to : ℕ) (old b : Sh
   pub loads : (d : ℕ) → d < s.days → get_or b.loads d None ≡ load s new d
   pub covered : CoveredTo new s.points b.covered_to
   pub inside : (d : ℕ) → from ≤ d → d < to → ShowsDay s new b d
+  pub notes : (d : ℕ) → d < s.days → Noted s new b d
   pub outside : (d : ℕ) → d < s.days → Outside from to d → SameDay s h new d
   pub elsewhere : (p d : ℕ) → 1 ≤ p → p ≤ s.points → Outside from to d → cell b p d ≡ cell old p d
   pub days : b.days ≡ old.days
@@ -52,6 +58,7 @@ reworked {s} {rest} {h} {new} {from} {to} {old} {b} r stood = record {
   shown = λ d within.
       ⊎_elim (λ early. kept d within (inl early))
       (λ late. ⊎_elim (λ before. r.inside d late before) (λ after. kept d within (inr after)) (cases_lt d to)) (cases_lt d from);
+  noted = r.notes;
   beyond = subst (λ n. drop n (vec_items b.figures) ≡ rest) places (r.beyond ∙ subst (λ n. drop n (vec_items old.figures) ≡ rest) (sym places) stood.beyond);
 }
   where
@@ -60,6 +67,11 @@ reworked {s} {rest} {h} {new} {from} {to} {old} {b} r stood = record {
 
     kept : (d : ℕ) → d < s.days → Outside from to d → ShowsDay s new b d
     kept d within away p low high = r.elsewhere p d low high away ∙ stood.shown d within p low high ∙ sym ((r.outside d within away).figures_stand p)
+
+-- what holds of the days from one day up to another, and of all others, holds of each
+by_days : {X : Type 0} (from to d : ℕ) → (from ≤ d → d < to → X) → (Outside from to d → X) → X
+by_days from to d inside outside =
+    ⊎_elim (λ early. outside (inl early)) (λ late. ⊎_elim (λ before. inside late before) (λ after. outside (inr after)) (cases_lt d to)) (cases_lt d from)
 
 -- what is told of a day's supplied figure by its reading
 supplied_by : (s : Setting) (h : History) (p d x : ℕ) (r : Reading) → covering h p d ≡ Some r → supplied s h p d ≡ Some x → share_on s h d r ≡ x
@@ -123,7 +135,8 @@ module _ (s : Setting) (h new : History) (g : ℕ) (l : Ledger) (moved : LoadMov
         ∙ sym (λ i. begun (moved.enrolments p i) d && ltb d (get_or (learned.covered i) (p - 1) 0));
   }
 
-  module _ (from to : ℕ) (b2 : Sheet) (low : from ≤ g) (high : g < to) (last : to ≤ b1.days) (shared_only : OnlyDays from to b1 b2) (shared : SharedOver s new g from to b1 b2) where
+  module _ (from to : ℕ) (b2 : Sheet) (low : from ≤ g) (high : g < to) (last : to ≤ b1.days) (shared_only : OnlyDays from to b1 b2) (shared : SharedOver s new g from to b1 b2)
+      (notes : b2.notes ≡ b0.notes) where
     -- every supplied figure is shown by the latest loads
     pub supplied_after_load : (d : ℕ) → ShowsSupplied s new b2 d
     supplied_after_load d p x p_low p_high is = go (covering new p d) refl
@@ -140,6 +153,14 @@ module _ (s : Setting) (h new : History) (g : ℕ) (l : Ledger) (moved : LoadMov
             ∙ supplied_by s new p d x r e is)
             (cases_Bool (covers r r.point g))
 
+    -- and what was noted of a day is so
+    pub ready_after_load : (d : ℕ) → d < s.days → Ready s new b2 d
+    ready_after_load d within = (
+      supplied_after_load d,
+      noted_kept (load_kept moved d) b0 b2 (λ p p_low p_high none. shared.free p d p_low p_high none ∙ cell_same learned_same p d)
+          (ap (λ ns. get_or ns d Unsettled) notes) (stood.noted d within),
+    )
+
     away : (d : ℕ) → Outside from to d → d ≡ g → ⊥
     away d outside same = ⊎_elim (λ before. omega arith) (λ after. omega arith) outside
 
@@ -151,14 +172,18 @@ module _ (s : Setting) (h new : History) (g : ℕ) (l : Ledger) (moved : LoadMov
         absurd (⊎_elim (λ before. omega (arith, between.0)) (λ after. omega (arith, between.1)) outside))
         (λ (not_joined : joined h d g ≡ false). not_joined) (cases_Bool (joined h d g))
 
-    pub load_reworked : (b3 : Sheet) → OnlyDays from to b2 b3 → ((d : ℕ) → from ≤ d → d < to → ShowsDay s new b3 d) → Stands s rest new b3
-    load_reworked b3 settled_only settled =
+    pub load_reworked : (b3 : Sheet) → OnlyDays from to b2 b3 → NotesStand from to b2 b3 → ((d : ℕ) → from ≤ d → d < to → Settled s new b3 d) → Stands s rest new b3
+    load_reworked b3 settled_only notes_stand settled =
         let only = only_again shared_only settled_only in
         let told = told_only only told_load in
         reworked (record {
           loads = told.loads;
           covered = told.covered;
-          inside = settled;
+          inside = λ d first last. (settled d first last).0;
+          notes = λ d within. by_days from to d (λ first last. (settled d first last).1)
+              (λ outside.
+              noted_kept (load_kept moved d) b0 b3 (λ p p_low p_high none. elsewhere_same learned_same told_load.points only p d p_low p_high outside)
+              (note_outside notes_stand d outside ∙ ap (λ ns. get_or ns d Unsettled) notes) (stood.noted d within));
           outside = λ d within outside. moved.apart d (away d outside) (apart d outside);
           elsewhere = elsewhere_same learned_same told_load.points only;
           days = only.days ∙ learned.days;
@@ -201,13 +226,33 @@ module _ (s : Setting) (h : History) (r : Reading) (l : Ledger) (lawful : Lawful
       go (Some old) e same =
           stood.shown d (covered_day s h lawful.0 p d old e) p low high ∙ supplied_shows s h p d old e ∙ supplied_by s (ReadingTaken r ∷ h) p d x old (same ∙ e) is
 
-  pub reading_reworked : (b3 : Sheet) → OnlyDays r.start r.end b1 b3 → r.end ≤ b1.days → ((d : ℕ) → r.start ≤ d → d < r.end → ShowsDay s (ReadingTaken r ∷ h) b3 d) → Stands s rest (ReadingTaken r ∷ h) b3
-  reading_reworked b3 only last settled =
+  -- and what was noted of a day is so
+  pub ready_after_reading : (b2 : Sheet) → SharesShown s (ReadingTaken r ∷ h) r b1 b2 → b2.notes ≡ b0.notes → (d : ℕ) → d < s.days → Ready s (ReadingTaken r ∷ h) b2 d
+  ready_after_reading b2 shares notes d within = (
+    supplied_after_reading b2 shares d,
+    noted_kept (reading_kept s h r d) b0 b2 stands (ap (λ ns. get_or ns d Unsettled) notes) (stood.noted d within),
+  )
+    where
+      stands : (p : ℕ) → 1 ≤ p → p ≤ s.points → is_some (covering (ReadingTaken r ∷ h) p d) ≡ false → cell b2 p d ≡ cell b0 p d
+      stands p low high none =
+          ⊎_elim
+          (λ (here : covers r p d ≡ true).
+          absurd (both_ways (is_some (covering (ReadingTaken r ∷ h) p d)) none (ap (λ t. is_some (option_or (cond t (Some r) None) (covering h p d))) here)))
+          (λ (away : covers r p d ≡ false).
+          shares p d low high ∙ ap (λ t. cond t (share_on s (ReadingTaken r ∷ h) d r) (cell b1 p d)) away ∙ cell_same cover_same p d)
+          (cases_Bool (covers r p d))
+
+  pub reading_reworked : (b3 : Sheet) → OnlyDays r.start r.end b1 b3 → NotesStand r.start r.end b0 b3 → r.end ≤ b1.days → ((d : ℕ) → r.start ≤ d → d < r.end → Settled s (ReadingTaken r ∷ h) b3 d) → Stands s rest (ReadingTaken r ∷ h) b3
+  reading_reworked b3 only notes_stand last settled =
       let told = told_only only told_reading in
       reworked (record {
         loads = told.loads;
         covered = told.covered;
-        inside = settled;
+        inside = λ d first last. (settled d first last).0;
+        notes = λ d within. by_days r.start r.end d (λ first last. (settled d first last).1)
+            (λ outside.
+            noted_kept (reading_kept s h r d) b0 b3 (λ p low high none. elsewhere_same cover_same told_reading.points only p d low high outside)
+            (note_outside notes_stand d outside) (stood.noted d within));
         outside = λ d within outside. reading_elsewhere s h r d (not_over d outside);
         elsewhere = elsewhere_same cover_same told_reading.points only;
         days = only.days ∙ learned.days;
@@ -240,13 +285,23 @@ module _ (s : Setting) (h : History) (q : ℕ) (e : Enrolment) (l : Ledger) (law
   pub supplied_after_enrolment : (d : ℕ) → d < s.days → ShowsSupplied s (Enrolled q e ∷ h) b1 d
   supplied_after_enrolment d within p x low high is = cell_same start_same p d ∙ supplied_shown_before s h b0 stood d within p x low high is
 
-  pub enrolment_reworked : (b3 : Sheet) → OnlyDays e.start b1.days b1 b3 → ((d : ℕ) → e.start ≤ d → d < b1.days → ShowsDay s (Enrolled q e ∷ h) b3 d) → Stands s rest (Enrolled q e ∷ h) b3
-  enrolment_reworked b3 only settled =
+  module _ (notes : b1.notes ≡ replicate 400 Unsettled) where
+    none_noted : (d : ℕ) → get_or b1.notes d Unsettled ≡ Unsettled
+    none_noted d = ap (λ ns. get_or ns d Unsettled) notes ∙ read_of_one Unsettled 400 d
+
+    pub ready_after_enrolment : (d : ℕ) → d < s.days → Ready s (Enrolled q e ∷ h) b1 d
+    ready_after_enrolment d within = (supplied_after_enrolment d within, nothing_noted s (Enrolled q e ∷ h) b1 d (none_noted d))
+
+  pub enrolment_reworked : (b3 : Sheet) → OnlyDays e.start b1.days b1 b3 → NotesStand e.start b1.days b1 b3 → b1.notes ≡ replicate 400 Unsettled
+      → ((d : ℕ) → e.start ≤ d → d < b1.days → Settled s (Enrolled q e ∷ h) b3 d) → Stands s rest (Enrolled q e ∷ h) b3
+  enrolment_reworked b3 only notes_stand notes settled =
       let told = told_only only told_enrolment in
       reworked (record {
         loads = told.loads;
         covered = told.covered;
-        inside = settled;
+        inside = λ d first last. (settled d first last).0;
+        notes = λ d within. by_days e.start b1.days d (λ first last. (settled d first last).1)
+            (λ outside. nothing_noted s (Enrolled q e ∷ h) b3 d (note_outside notes_stand d outside ∙ none_noted notes d));
         outside = λ d within outside. enrolment_moves s h q d e lawful (⊎_elim (λ (before : d < e.start). before) (λ (after : b1.days ≤ d). absurd (omega (arith, told_enrolment.days))) outside);
         elsewhere = elsewhere_same start_same told_enrolment.points only;
         days = only.days ∙ learned.days;
@@ -270,20 +325,30 @@ module _ (s : Setting) (h : History) (g count : ℕ) (l : Ledger) (lawful : Lawf
   pub supplied_after_count : (d : ℕ) → d < s.days → ShowsSupplied s (DegreeDaysEntered g count ∷ h) b0 d
   supplied_after_count d within p x low high is = supplied_shown_before s h b0 stood d within p x low high is
 
-  pub count_reworked : (b1 : Sheet) → OnlyDays g (g + 1) b0 b1 → ShowsDay s (DegreeDaysEntered g count ∷ h) b1 g → Stands s rest (DegreeDaysEntered g count ∷ h) b1
-  count_reworked b1 only settled =
+  pub count_reworked : (b1 : Sheet) → OnlyDays g (g + 1) b0 b1 → NotesStand g (g + 1) b0 b1 → Settled s (DegreeDaysEntered g count ∷ h) b1 g → Stands s rest (DegreeDaysEntered g count ∷ h) b1
+  count_reworked b1 only notes_stand settled =
       let told = told_only only told_count in
       let within = (entry_in s h (DegreeDaysEntered g count) lawful).0 in
       reworked (record {
         loads = told.loads;
         covered = told.covered;
-        inside = λ d low high. subst (λ k. ShowsDay s (DegreeDaysEntered g count ∷ h) b1 k) (omega arith) settled;
-        outside = λ d inside outside. count_elsewhere s h g d count (λ same. ⊎_elim (λ before. omega arith) (λ after. omega arith) outside);
+        inside = λ d low high. (here d low high).0;
+        notes = λ d in_book. by_days g (g + 1) d (λ low high. (here d low high).1)
+            (λ outside.
+            noted_kept (count_kept s h g count d (away d outside)) b0 b1 (λ p low high none. cell_stands only p d low (omega (arith, stood.points)) outside)
+            (note_outside notes_stand d outside) (stood.noted d in_book));
+        outside = λ d inside outside. count_elsewhere s h g d count (away d outside);
         elsewhere = λ p d low high outside. cell_stands only p d low (omega (arith, stood.points)) outside;
         days = only.days;
         points = only.points;
         beyond = beyond_stands only (omega (arith, within, stood.days));
       }) stood
+    where
+      here : (d : ℕ) → g ≤ d → d < g + 1 → Settled s (DegreeDaysEntered g count ∷ h) b1 d
+      here d low high = subst (λ k. Settled s (DegreeDaysEntered g count ∷ h) b1 k) (omega arith) settled
+
+      away : (d : ℕ) → Outside g (g + 1) d → d ≡ g → ⊥
+      away d outside same = ⊎_elim (λ before. omega arith) (λ after. omega arith) outside
 
 -- a reading that a book has just accepted lies in a sheet of its days and points
 pub reading_lies : (s : Setting) {rest : List ℕ} (h : History) (r : Reading) → Lawful s (ReadingTaken r ∷ h) → (b : Sheet) → Stands s rest h b → lies_in b r ≡ true

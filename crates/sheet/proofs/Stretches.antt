@@ -3,7 +3,7 @@ use Rattle.std.proofs.Common.{◌≡◌, ℕ, ◌+◌, ◌-◌, ◌*◌, ◌<◌
 use Rattle.histories.specs.History.{History, Setting}
 use Rattle.sheet_laws.proofs.Rows.{cell_after, cell_before, same_drop}
 use Rattle.sheet.specs.Cells.{OnlyDays, cell}
-use Rattle.sheet.specs.Told.{ShowsDay, ShowsSupplied}
+use Rattle.sheet.specs.Showing.{ShowsDay, ShowsSupplied}
 use Rattle.sheet.specs.declared.state.Sheet.{Sheet}
 
 -- a day is not among those from one day up to another

@@ -2,8 +2,10 @@ pub mod Asking
 pub mod Cells
 pub mod Learning
 pub mod Limits
+pub mod Noted
 pub mod Opened
 pub mod Scaling
 pub mod Shares
+pub mod Showing
 pub mod Sums
 pub mod Told

@@ -1,5 +1,5 @@
 -- The shares of readings that a sheet shows.
-use Rattle.std.specs.Prelude.{◌≡◌, ℕ, ◌<◌, ◌≤◌, Bool, true, false, cond, ◌&&◌, List, map, Some, nat_le, nat_lt}
+use Rattle.std.specs.Prelude.{◌≡◌, ℕ, ◌<◌, ◌≤◌, Bool, true, false, cond, ◌&&◌, List, map, is_some, Some, nat_le, nat_lt}
 use Rattle.histories.specs.Figures.{share_on}
 use Rattle.histories.specs.History.{History, Setting, covering, covers}
 use Rattle.histories.specs.Readings.{joined}
@@ -30,8 +30,9 @@ lies_in b r = nat_le 1 r.point && (nat_le r.point b.points && (nat_lt r.start r.
 abbrev pub SharesShown : Setting → History → Reading → Sheet → Sheet → Type 0
 SharesShown s h r old new = (p d : ℕ) → 1 ≤ p → p ≤ s.points → cell new p d ≡ cond (covers r p d) (share_on s h d r) (cell old p d)
 
--- the readings over day g show their shares, those elsewhere stand, and the days joined to g lie between two days
+-- the readings over day g show their shares, all other figures stand, and the days joined to g lie between two days
 pub record SharedOver (s : Setting) (h : History) (g from to : ℕ) (old new : Sheet) : Type 0 where
   pub shared : (p d : ℕ) (r : Reading) → covering h p d ≡ Some r → covers r r.point g ≡ true → cell new p d ≡ share_on s h d r
   pub kept : (p d : ℕ) (r : Reading) → covering h p d ≡ Some r → covers r r.point g ≡ false → cell new p d ≡ cell old p d
+  pub free : (p d : ℕ) → 1 ≤ p → p ≤ s.points → is_some (covering h p d) ≡ false → cell new p d ≡ cell old p d
   pub between : (d : ℕ) → joined h d g ≡ true → (from ≤ d) × (d < to)

@@ -7,7 +7,8 @@ use Rattle.histories.specs.History.{History, Setting, covering}
 use Rattle.ledger.specs.Told.{Follows}
 use Rattle.sheet_laws.specs.CoveredTo.{CoveredTo}
 use Rattle.ledger.specs.declared.state.Ledger.{Ledger}
-use Rattle.sheet.specs.Cells.{cell}
+use Rattle.sheet.specs.Noted.{Noted}
+use Rattle.sheet.specs.Showing.{ShowsDay}
 use Rattle.sheet.specs.declared.standing.Standing.{Standing}
 use Rattle.sheet.specs.declared.standing.Standing.TheVariants.{Covered, Estimated, Absent}
 use Rattle.sheet.specs.declared.state.Sheet.{Sheet}
@@ -30,19 +31,11 @@ pub record Told (s : Setting) (h : History) (l : Ledger) (b : Sheet) : Type 0 wh
 abbrev pub EstimatesOn : Setting → History → ℕ → Meaning → Type 0
 EstimatesOn s h d m = (p : ℕ) → m p (d + 1) ≡ estimate s h p d
 
--- a sheet shows the supplied figures of a day
-abbrev pub ShowsSupplied : Setting → History → Sheet → ℕ → Type 0
-ShowsSupplied s h b d = (p x : ℕ) → 1 ≤ p → p ≤ s.points → supplied s h p d ≡ Some x → cell b p d ≡ x
-
--- a sheet shows the figures of a day
-abbrev pub ShowsDay : Setting → History → Sheet → ℕ → Type 0
-ShowsDay s h b d = (p : ℕ) → 1 ≤ p → p ≤ s.points → cell b p d ≡ figure s h p d
-
 -- an estimator means the latest estimates
 abbrev pub Estimates : Setting → History → Meaning → Type 0
 Estimates s h m = (d : ℕ) → EstimatesOn s h d m
 
--- a sheet stands as a history leaves it: it knows its loads and what is covered, and shows the figures of each day;
+-- a sheet stands as a history leaves it: it knows its loads and what is covered, shows the figures of each day, and its notes are so;
 -- the rest of its list, beyond the book's places, is as it was at the opening
 pub record Stands (s : Setting) (rest : List ℕ) (h : History) (b : Sheet) : Type 0 where
   pub days : b.days ≡ s.days
@@ -50,4 +43,5 @@ pub record Stands (s : Setting) (rest : List ℕ) (h : History) (b : Sheet) : Ty
   pub loads : (d : ℕ) → d < s.days → slice_index_or b.loads d None ≡ load s h d
   pub covered : CoveredTo h s.points b.covered_to
   pub shown : (d : ℕ) → d < s.days → ShowsDay s h b d
+  pub noted : (d : ℕ) → d < s.days → Noted s h b d
   pub beyond : drop (s.days * s.points) (vec_items b.figures) ≡ rest

@@ -1,7 +1,8 @@
 ghost use Rattle.std.specs.Prelude.{◌≡◌, ℕ, ◌<◌, ◌≤◌};
 ghost use Rattle.histories.specs.History.{History, Setting};
 ghost use Rattle.sheet.specs.Cells.{OnlyDays};
-ghost use Rattle.sheet.specs.Told.{Estimates, ShowsDay, ShowsSupplied, Told};
+ghost use Rattle.sheet.specs.Noted.{NotesStand, Ready, Settled};
+ghost use Rattle.sheet.specs.Told.{Estimates, Told};
 
 use super::sources::Sources;
 use super::span::Span;
@@ -9,14 +10,15 @@ use super::state::Sheet;
 use estimators::Estimator;
 
 impl Sheet {
-    // Works out the generated figures of the days of a span anew.
+    // Settles the days of a span, whose estimates stand where something is noted of them.
     pub(crate) fn settle_days<E: Estimator>(&mut self, sources: &Sources<'_, E>, span: Span)
-        requires { span.from ≤ span.to }
+        requires { (span.from ≤ span.to) × (span.to ≤ self.old.days) }
         ensures stands { OnlyDays span.from span.to self.old self.new }
-        ensures law { (s : Setting) (h : History) → Told s h sources.now.ledger.now self.old → Estimates s h (E.Estimator.meaning sources.now.estimator.now) → span.to ≤ s.days → ((d : ℕ) → span.from ≤ d → d < span.to → ShowsSupplied s h self.old d) → (d : ℕ) → span.from ≤ d → d < span.to → ShowsDay s h self.new d }
+        ensures notes { NotesStand span.from span.to self.old self.new }
+        ensures law { (s : Setting) (h : History) → Told s h sources.now.ledger.now self.old → Estimates s h (E.Estimator.meaning sources.now.estimator.now) → ((d : ℕ) → span.from ≤ d → d < span.to → Ready s h self.old d) → (d : ℕ) → span.from ≤ d → d < span.to → Settled s h self.new d }
     {
         for day in span.from..span.to {
-            self.settle_day(sources, day);
+            self.resettle_day(sources, day);
         }
     }
 

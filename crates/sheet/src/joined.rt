@@ -59,6 +59,7 @@ impl Sheet {
         requires { HasDay self.old day }
         ensures around { (result.from ≤ day) × ((day < result.to) × (result.to ≤ self.old.days)) }
         ensures stands { OnlyDays result.from result.to self.old self.new }
+        ensures notes { self.new.notes ≡ self.old.notes }
         ensures law { (s : Setting) (h : History) → Told s h ledger.now self.old → SharedOver s h day result.from result.to self.old self.new }
     {
         let mut span = Span {

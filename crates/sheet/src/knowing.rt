@@ -1,11 +1,14 @@
-ghost use Rattle.std.specs.Prelude.{◌≡◌, ◌-◌, ◌<◌, max, length, slice_index_or};
+ghost use Rattle.std.specs.Prelude.{◌≡◌, ◌-◌, ◌<◌, max, length, replicate, slice_index_or};
 ghost use Rattle.histories.specs.Figures as law;
 ghost use Rattle.histories.specs.History.{History, Setting};
 ghost use Rattle.ledger.specs.Told.{Follows};
 ghost use Rattle.sheet.specs.Cells.{HasDay, HasPoint};
-ghost use Rattle.sheet.specs.Learning.{WithCover, WithLoad};
+ghost use Rattle.sheet.specs.Learning.{WithCover, WithLoad, WithNote};
+ghost use Rattle.sheet.specs.declared.day_note.DayNote.TheVariants.{Unsettled};
 
+use super::day_note::DayNote;
 use super::state::Sheet;
+use estimators::DAYS;
 use ledger::Ledger;
 
 impl Sheet {
@@ -14,6 +17,7 @@ impl Sheet {
         requires { HasDay self.old day }
         ensures within { day < length self.old.loads }
         ensures days { self.new.days ≡ self.old.days }
+        ensures notes { self.new.notes ≡ self.old.notes }
         ensures after { (s : Setting) (h : History) → Follows s h ledger.now → WithLoad day (law.load s h day) self.old self.new }
     {
         self.loads[day as usize] = ledger.load(day);
@@ -23,18 +27,40 @@ impl Sheet {
     pub(crate) fn cover_to(&mut self, point: u32, day: u32)
         requires { HasPoint self.old point }
         ensures within { point - 1 < length self.old.covered_to }
+        ensures notes { self.new.notes ≡ self.old.notes }
         ensures after { WithCover point day self.old self.new }
     {
         self.covered_to[point as usize - 1] = day;
+    }
+
+    // A point starts on a day: its days are covered up to there, and nothing is known any more of the estimates of any day.
+    pub(crate) fn start_at(&mut self, point: u32, day: u32)
+        requires { HasPoint self.old point }
+        ensures within { point - 1 < length self.old.covered_to }
+        ensures notes { self.new.notes ≡ replicate 400 Unsettled }
+        ensures after { WithCover point day self.old self.new }
+    {
+        self.cover_to(point, day);
+        self.notes = [DayNote::Unsettled; DAYS as usize];
     }
 
     // The days of a point are covered up to this day at least.
     pub(crate) fn cover_at_least(&mut self, point: u32, day: u32)
         requires { HasPoint self.old point }
         ensures within { point - 1 < length self.old.covered_to }
+        ensures notes { self.new.notes ≡ self.old.notes }
         ensures after { WithCover point (max (slice_index_or self.old.covered_to (point - 1) 0) day) self.old self.new }
     {
         let before = self.covered_to[point as usize - 1];
         self.cover_to(point, before.max(day));
+    }
+
+    // Notes something of a day of the sheet.
+    pub(crate) fn note(&mut self, day: u32, note: DayNote)
+        requires { HasDay self.old day }
+        ensures within { day < length self.old.notes }
+        ensures after { WithNote day note self.old self.new }
+    {
+        self.notes[day as usize] = note;
     }
 }

@@ -5,6 +5,7 @@
 mod asking;
 mod cells;
 mod day_figures;
+mod day_note;
 mod days;
 mod joined;
 mod knowing;

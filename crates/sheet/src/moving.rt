@@ -52,7 +52,7 @@ impl Sheet {
         if !(1..=self.points).contains(&point) || enrolment.start >= self.days {
             return;
         }
-        self.cover_to(point, enrolment.start);
+        self.start_at(point, enrolment.start);
         let days = self.days_from(enrolment.start);
         self.settle_days(sources, days);
     }

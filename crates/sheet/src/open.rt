@@ -3,6 +3,7 @@ ghost use Rattle.histories.specs.History.{Setting};
 ghost use Rattle.sheet.specs.Opened.{opens};
 ghost use Rattle.sheet.specs.Told.{Stands};
 
+use super::day_note::DayNote;
 use super::state::Sheet;
 use estimators::{DAYS, POINTS};
 use ledger::clear_front;
@@ -34,6 +35,7 @@ impl Sheet {
             figures: emptied(days, points, figures),
             loads: [None; DAYS as usize],
             covered_to: [0; POINTS as usize],
+            notes: [DayNote::Unsettled; DAYS as usize],
         })
     }
 

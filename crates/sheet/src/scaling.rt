@@ -1,6 +1,7 @@
 ghost use Rattle.std.specs.Prelude.{◌≡◌, ◌-◌, ◌≤◌, length, IfSome, sum};
-ghost use Rattle.sheet.specs.Scaling.{estimates_of, figures_of, scaled};
+ghost use Rattle.sheet.specs.Scaling.{estimates_of, figures_of, note_of, scaled};
 
+use super::day_note::DayNote;
 use sharing::{EstimatedPoint, share};
 
 // What the estimates of some points come to.
@@ -12,15 +13,22 @@ fn total_of(rows: &[EstimatedPoint]) -> u64
 }
 
 // Scales the estimates of a day: where they and supplied energy together exceed its load, what the load leaves is shared over them.
-pub(crate) fn scale(load: Option<u64>, supplied: u64, rows: &mut [EstimatedPoint])
+// Tells what can be noted of the day.
+pub(crate) fn scale(load: Option<u64>, supplied: u64, rows: &mut [EstimatedPoint]) -> DayNote
     requires { (IfSome load (λ n. n ≤ 1000000000)) × ((length rows.old ≤ 256) × (figures_of rows.old ≡ estimates_of rows.old)) }
-    ensures { figures_of rows.new ≡ scaled load supplied (estimates_of rows.old) }
+    ensures figures { figures_of rows.new ≡ scaled load supplied (estimates_of rows.old) }
+    ensures note { result ≡ note_of load supplied (estimates_of rows.old) }
 {
-    let Some(load) = load else {
-        return;
-    };
     let estimated = total_of(rows);
-    if supplied.saturating_add(estimated) > load && estimated > 0 {
-        share(load.saturating_sub(supplied), rows).unwrap();
+    if estimated == 0 {
+        return DayNote::NothingEstimated;
     }
+    let Some(load) = load else {
+        return DayNote::EstimatesShown;
+    };
+    if supplied.saturating_add(estimated) <= load {
+        return DayNote::EstimatesShown;
+    }
+    share(load.saturating_sub(supplied), rows).unwrap();
+    DayNote::Unsettled
 }

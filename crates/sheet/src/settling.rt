@@ -1,11 +1,15 @@
-ghost use Rattle.std.specs.Prelude.{◌≡◌, ℕ, ◌+◌, ◌-◌, ◌<◌, ◌≤◌, length, is_some, IfSome, if◌then◌else◌, slice_index};
+ghost use Rattle.std.specs.Prelude.{◌≡◌, ℕ, ◌+◌, ◌-◌, ◌<◌, ◌≤◌, true, length, is_some, IfSome, if◌then◌else◌, slice_index};
 ghost use Rattle.std.specs.Option.{unwrap_or};
 ghost use Rattle.histories.specs.Figures as law;
 ghost use Rattle.histories.specs.History.{History, Setting, covering};
 ghost use Rattle.sheet.specs.Cells.{HasCell, HasDay, OnlyDays, cell};
-ghost use Rattle.sheet.specs.Scaling.{estimates_of, figures_of};
-ghost use Rattle.sheet.specs.Told.{EstimatesOn, ShowsDay, ShowsSupplied, Told};
+ghost use Rattle.ledger.specs.declared.state.Ledger.{Ledger};
+ghost use Rattle.sheet.specs.Noted.{NotesStand, Ready, Settled};
+ghost use Rattle.sheet.specs.Scaling.{estimates_of, figures_of, note_of};
+ghost use Rattle.sheet.specs.Showing.{ShowsDay, ShowsSupplied};
+ghost use Rattle.sheet.specs.Told.{EstimatesOn, Told};
 
+use super::day_note::DayNote;
 use super::scaling::scale;
 use super::sources::Sources;
 use super::state::Sheet;
@@ -73,6 +77,7 @@ impl Sheet {
     fn show_generated(&mut self, ledger: &Ledger, day: u32, rows: &[EstimatedPoint])
         requires { (length rows.now ≡ self.old.points) × HasDay self.old day }
         ensures stands { OnlyDays day (day + 1) self.old self.new }
+        ensures notes { self.new.notes ≡ self.old.notes }
         ensures law { (s : Setting) (h : History) → Told s h ledger.now self.old → (p : ℕ) → 1 ≤ p → p ≤ s.points → cell self.new p day ≡ (if is_some (covering h p day) then cell self.old p day else slice_index (figures_of rows.now) (p - 1)) }
     {
         // Half open, for the same reason as in `missing`.
@@ -83,40 +88,44 @@ impl Sheet {
         }
     }
 
-    // The generated figures of a day's points in number order, scaled where they must be, beside the supplied figures that the sheet shows.
+    // The generated figures of a day's points in number order, scaled where they must be, beside the supplied figures that the sheet
+    // shows. Tells what can be noted of the day.
     fn generate<E: Estimator>(
         &self,
         sources: &Sources<'_, E>,
         day: u32,
         rows: &mut [EstimatedPoint],
-    )
+    ) -> DayNote
         requires { (length rows.old ≡ self.now.points) × HasDay self.now day }
-        ensures { (s : Setting) (h : History) → Told s h sources.now.ledger.now self.now → EstimatesOn s h day (E.Estimator.meaning sources.now.estimator.now) → ShowsSupplied s h self.now day → figures_of rows.new ≡ law.generated s h day }
+        ensures { (s : Setting) (h : History) → Told s h sources.now.ledger.now self.now → EstimatesOn s h day (E.Estimator.meaning sources.now.estimator.now) → ShowsSupplied s h self.now day → (figures_of rows.new ≡ law.generated s h day) × (result ≡ note_of (law.load s h day) (law.supplied_sum s h day) (law.estimates s h day)) }
     {
         let supplied = self.sum_of(day, |point| self.is_covered(sources.ledger, point, day));
         self.estimate_all(sources, day, rows);
-        scale(self.loads[day as usize], supplied, rows);
+        scale(self.loads[day as usize], supplied, rows)
     }
 
-    // Works out the generated figures of a day of the sheet anew, at N points at most.
+    // Works out the generated figures of a day of the sheet anew, at N points at most, and notes what its estimates come to.
     fn settle_in_room<E: Estimator, const N: usize>(&mut self, sources: &Sources<'_, E>, day: u32)
         requires day { HasDay self.old day }
         requires room { (self.old.points ≤ N) × (N ≤ 256) }
         ensures stands { OnlyDays day (day + 1) self.old self.new }
-        ensures law { (s : Setting) (h : History) → Told s h sources.now.ledger.now self.old → EstimatesOn s h day (E.Estimator.meaning sources.now.estimator.now) → day < s.days → ShowsSupplied s h self.old day → ShowsDay s h self.new day }
+        ensures notes { NotesStand day (day + 1) self.old self.new }
+        ensures law { (s : Setting) (h : History) → Told s h sources.now.ledger.now self.old → EstimatesOn s h day (E.Estimator.meaning sources.now.estimator.now) → day < s.days → ShowsSupplied s h self.old day → Settled s h self.new day }
     {
         // An array of fixed size, since a sheet allocates nothing.
         let mut all = [NOTHING; N];
         let all = &mut all[..];
         let rows = &mut all[0..self.points as usize];
-        self.generate(sources, day, rows);
+        let note = self.generate(sources, day, rows);
         self.show_generated(sources.ledger, day, rows);
+        self.note(day, note);
     }
 
-    // Works out the generated figures of a day anew, beside the supplied ones that the sheet shows.
+    // Works out the generated figures of a day anew, beside the supplied ones that the sheet shows, and notes what its estimates come to.
     pub(crate) fn settle_day<E: Estimator>(&mut self, sources: &Sources<'_, E>, day: u32)
         ensures stands { OnlyDays day (day + 1) self.old self.new }
-        ensures law { (s : Setting) (h : History) → Told s h sources.now.ledger.now self.old → EstimatesOn s h day (E.Estimator.meaning sources.now.estimator.now) → day < s.days → ShowsSupplied s h self.old day → ShowsDay s h self.new day }
+        ensures notes { NotesStand day (day + 1) self.old self.new }
+        ensures law { (s : Setting) (h : History) → Told s h sources.now.ledger.now self.old → EstimatesOn s h day (E.Estimator.meaning sources.now.estimator.now) → day < s.days → ShowsSupplied s h self.old day → Settled s h self.new day }
     {
         // Outside the sheet nothing changes, and no caller has to show that it is inside.
         if day >= self.days {
@@ -127,6 +136,33 @@ impl Sheet {
             self.settle_in_room::<E, 32>(sources, day);
         } else {
             self.settle_in_room::<E, 256>(sources, day);
+        }
+    }
+
+    // Whether a day of the sheet shows its figures by what is noted of it, where it shows the supplied ones.
+    fn is_settled(&self, day: u32) -> bool
+        requires { HasDay self.now day }
+        ensures { (s : Setting) (h : History) (l : Ledger) → Told s h l self.now → Ready s h self.now day → result ≡ true → ShowsDay s h self.now day }
+    {
+        match self.notes[day as usize] {
+            DayNote::Unsettled => false,
+            DayNote::NothingEstimated => true,
+            DayNote::EstimatesShown => match self.loads[day as usize] {
+                Some(load) => self.sum_of(day, |_| true) <= load,
+                None => true,
+            },
+        }
+    }
+
+    // Settles a day whose estimates stand: nothing is worked out where what is noted of it tells that its figures stand too.
+    pub(crate) fn resettle_day<E: Estimator>(&mut self, sources: &Sources<'_, E>, day: u32)
+        requires { HasDay self.old day }
+        ensures stands { OnlyDays day (day + 1) self.old self.new }
+        ensures notes { NotesStand day (day + 1) self.old self.new }
+        ensures law { (s : Setting) (h : History) → Told s h sources.now.ledger.now self.old → EstimatesOn s h day (E.Estimator.meaning sources.now.estimator.now) → Ready s h self.old day → Settled s h self.new day }
+    {
+        if !self.is_settled(day) {
+            self.settle_day(sources, day);
         }
     }
 }

@@ -49,6 +49,7 @@ impl Sheet {
         requires point { HasPoint self.old point }
         requires days { start + length rows.now ≤ self.old.days }
         ensures stands { OnlyDays start (start + length rows.now) self.old self.new }
+        ensures notes { self.new.notes ≡ self.old.notes }
         ensures cells { (p d : ℕ) → 1 ≤ p → p ≤ self.old.points → cell self.new p d ≡ (if nat_eq point p && (nat_le start d && nat_lt d (start + length rows.now)) then slice_index (shares_of rows.now) (d - start) else cell self.old p d) }
     {
         for (day, row) in (start..self.days).zip(rows) {
@@ -61,6 +62,7 @@ impl Sheet {
         requires lies { LiesIn self.old reading.now }
         requires each { length rows.old ≡ reading.now.end - reading.now.start }
         ensures stands { OnlyDays reading.now.start reading.now.end self.old self.new }
+        ensures notes { self.new.notes ≡ self.old.notes }
         ensures law { (s : Setting) (h : History) (l : Ledger) → Told s h l self.old → can_share largest_day_weight reading.now.energy (law.weights s h reading.now) ≡ true → SharesShown s h reading.now self.old self.new }
     {
         self.weigh_days(reading.start, rows);
@@ -74,6 +76,7 @@ impl Sheet {
         requires lies { LiesIn self.old reading.now }
         requires room { (reading.now.end - reading.now.start ≤ N) × (N ≤ 400) }
         ensures stands { OnlyDays reading.now.start reading.now.end self.old self.new }
+        ensures notes { self.new.notes ≡ self.old.notes }
         ensures law { (s : Setting) (h : History) (l : Ledger) → Told s h l self.old → can_share largest_day_weight reading.now.energy (law.weights s h reading.now) ≡ true → SharesShown s h reading.now self.old self.new }
     {
         // An array of fixed size, since a sheet allocates nothing.
@@ -87,6 +90,7 @@ impl Sheet {
     pub(crate) fn share_reading(&mut self, reading: &Reading)
         requires { LiesIn self.old reading.now }
         ensures stands { OnlyDays reading.now.start reading.now.end self.old self.new }
+        ensures notes { self.new.notes ≡ self.old.notes }
         ensures law { (s : Setting) (h : History) (l : Ledger) → Told s h l self.old → can_share largest_day_weight reading.now.energy (law.weights s h reading.now) ≡ true → SharesShown s h reading.now self.old self.new }
     {
         // An array is filled before it is used: a month's reading has no room made for 400 days.

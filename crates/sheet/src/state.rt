@@ -2,10 +2,11 @@ ghost use Rattle.std.specs.Prelude.{◌*◌, ◌≤◌, T, vec_len};
 ghost use Rattle.std.specs.List.{list_all};
 ghost use Rattle.sheet.specs.Limits.{load_within};
 
+use super::day_note::DayNote;
 use estimators::{DAYS, POINTS};
 
 // The figures, day by day and by point. Beside them what they are worked out from again and again: the load of each day,
-// and of each point the day before which its days are covered, from its start day on.
+// of each point the day before which its days are covered, from its start day on, and what is noted of each day.
 #[derive(Drop)]
 pub struct Sheet {
     pub(crate) days: u32,
@@ -14,6 +15,7 @@ pub struct Sheet {
     // Arrays of fixed size, since a sheet allocates nothing.
     pub(crate) loads: [Option<u64>; DAYS as usize],
     pub(crate) covered_to: [u32; POINTS as usize],
+    pub(crate) notes: [DayNote; DAYS as usize],
     ghost few_days: { days ≤ 400 },
     ghost few_points: { points ≤ 256 },
     ghost long: { days * points ≤ vec_len figures },

@@ -9,18 +9,18 @@ pub unwrap-requires : goal.unwrap-requires
 unwrap-requires c =
     accepted_ok c.share.result _ 3
     (left_shareable c.args.load c.in-Some.load c.args.supplied c.saturating_sub.result c.total_of-estimated.result c.args.rows.now c.requires.0 c.in-Some.is c.saturating_sub.ensures c.requires.1.0 c.total_of-estimated.ensures
-    c.if-estimated-gt0.true) c.share.ensures.answer
+    (omega (arith, c.if-estimated-eq0.false))) c.share.ensures.answer
 
-pub returns-then-estimated-gt0 : goal.returns-then-estimated-gt0
-returns-then-estimated-gt0 c =
+pub returns-clause-figures : goal.returns-clause-figures
+returns-clause-figures c =
     let n = c.in-Some.load in
     let rows = c.args.rows.now in
     let left : ℕ = c.saturating_sub.result in
     let small : c.in-Some.load ≤ 1000000000 = subst (λ (o : Option ℕ). IfSome o (λ x. x ≤ 1000000000)) c.in-Some.is c.requires.0 in
     let total : sum (estimates_of c.args.rows.now) ≡ c.total_of-estimated.result = sym c.total_of-estimated.ensures in
-    let some : 0 < sum (estimates_of c.args.rows.now) = omega (arith, total, c.if-estimated-gt0.true) in
-    let above : c.in-Some.load < c.args.supplied + sum (estimates_of c.args.rows.now) = omega (arith, total, small, c.saturating_add.ensures, c.if-saturating_add-load.true) in
-    let can = left_shareable c.args.load n c.args.supplied left c.total_of-estimated.result rows c.requires.0 c.in-Some.is c.saturating_sub.ensures c.requires.1.0 c.total_of-estimated.ensures c.if-estimated-gt0.true in
+    let some : 0 < sum (estimates_of c.args.rows.now) = omega (arith, total, c.if-estimated-eq0.false) in
+    let above : c.in-Some.load < c.args.supplied + sum (estimates_of c.args.rows.now) = omega (arith, total, small, c.saturating_add.ensures, c.if-saturating_add-load.false) in
+    let can = left_shareable c.args.load n c.args.supplied left c.total_of-estimated.result rows c.requires.0 c.in-Some.is c.saturating_sub.ensures c.requires.1.0 c.total_of-estimated.ensures (omega (arith, c.if-estimated-eq0.false)) in
     scaled_by c.args.load c.args.supplied (estimates_of rows) _
     (ap (λ o. exceeded c.args.supplied (sum (estimates_of rows)) o) c.in-Some.is ∙ exceeds c.args.supplied (sum (estimates_of rows)) n above some)
     (shared_figures left rows c.share.new.rows can c.share.ensures.rows

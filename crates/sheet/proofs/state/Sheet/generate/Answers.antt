@@ -2,7 +2,7 @@ use Rattle.std.proofs.Common.{◌≡◌, ◌<◌, ◌≤◌, is_some, ◌∙◌,
 use Rattle.histories.specs.Figures.{supplied_sum}
 use Rattle.histories.specs.History.{covering}
 use Rattle.sheet_laws.proofs.Bounds.{supplied_sum_bounded}
-use Rattle.sheet.specs.Scaling.{scaled}
+use Rattle.sheet.specs.Scaling.{note_of, scaled}
 use Rattle.sheet.proofs.Generating.{supplied_shown}
 use Rattle.sheet.proofs.state.Sheet.generate.Goals as goal
 
@@ -14,5 +14,7 @@ returns g c = λ s h told on shows.
     let counted = c.sum_of-supplied.ensures (λ p. is_some (covering h p c.args.day)) (λ p answer has e. search (rules, told)) in
     let bounded = supplied_sum_bounded s h told.lawful few c.args.day in
     let supplied : c.sum_of-supplied.result ≡ supplied_sum s h c.args.day = omega (arith, counted, bounded, supplied_shown s h sheet c.args.day told.points shows) in
-    c.scale.ensures
-    ∙ (λ i. scaled (told.loads c.args.day day i) (supplied i) (c.estimate_all.ensures.law s h told on i))
+    let estimates = c.estimate_all.ensures.law s h told on in (
+      c.scale.ensures.figures ∙ (λ i. scaled (told.loads c.args.day day i) (supplied i) (estimates i)),
+      c.scale.ensures.note ∙ (λ i. note_of (told.loads c.args.day day i) (supplied i) (estimates i)),
+    )

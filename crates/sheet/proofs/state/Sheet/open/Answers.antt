@@ -7,5 +7,5 @@ pub returns-clause-stands : goal.returns-clause-stands
 returns-clause-stands c = λ s days points.
     let places : s.days * s.points ≡ c.args.days * c.args.points = λ i. days i * points i in
     stands_open s _ _ (vec_items c.args.figures) (sym days) (sym points) (omega (arith, c.len.ensures, places, c.args.figures.ok.0))
-    (c.emptied.ensures.items ∙ ap (λ (n : ℕ). map zero_of (take n (vec_items c.args.figures)) ++ drop n (vec_items c.args.figures)) (sym places)) refl
+    (c.emptied.ensures.items ∙ ap (λ (n : ℕ). map zero_of (take n (vec_items c.args.figures)) ++ drop n (vec_items c.args.figures)) (sym places)) refl refl
     (ap (λ (n : ℕ). drop n (vec_items c.args.figures)) places)

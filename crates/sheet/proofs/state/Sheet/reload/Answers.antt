@@ -1,6 +1,6 @@
-use Rattle.std.proofs.Common.{◌≤◌, arith}
+use Rattle.std.proofs.Common.{◌≤◌, ◌∙◌, arith}
 use Rattle.sheet.proofs.Keeping.{told_only}
-use Rattle.sheet.proofs.Reworked.{load_reworked, supplied_after_load, told_load}
+use Rattle.sheet.proofs.Reworked.{load_reworked, ready_after_load, told_load}
 use Rattle.sheet.proofs.state.Sheet.reload.Goals as goal
 
 pub returns : goal.returns
@@ -18,8 +18,9 @@ returns g c = λ s rest h new moved follows on within stood.
     let only = c.share_over-joined.ensures.stands in
     let told = told_load s h new day ledger moved follows old knowing stood learned inside in
     let shared = c.share_over-joined.ensures.law s new told in
+    let notes = c.share_over-joined.ensures.notes ∙ c.learn_load.ensures.notes in
     let last : c.share_over-joined.result.to ≤ s.days = omega (arith, told.days, around.1.1) in
-    load_reworked s h new day ledger moved follows old knowing stood learned inside from to sharing around.0 around.1.0 around.1.1 only shared c.settle_days.new.self
-    c.settle_days.ensures.stands
-    (c.settle_days.ensures.law s new (told_only only told) on last
-    (λ d low high. supplied_after_load s h new day ledger moved follows old knowing stood learned inside from to sharing around.0 around.1.0 around.1.1 only shared d))
+    load_reworked s h new day ledger moved follows old knowing stood learned inside from to sharing around.0 around.1.0 around.1.1 only shared notes c.settle_days.new.self
+    c.settle_days.ensures.stands c.settle_days.ensures.notes
+    (c.settle_days.ensures.law s new (told_only only told) on
+    (λ d low high. ready_after_load s h new day ledger moved follows old knowing stood learned inside from to sharing around.0 around.1.0 around.1.1 only shared notes d (omega (arith, last, high))))

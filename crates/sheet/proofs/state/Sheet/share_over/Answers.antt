@@ -20,10 +20,11 @@ loop-place-preserved c =
     let from = c.loop-place.span.from in
     let to = c.loop-place.span.to in
     let spanned = c.loop-place.invariant.0 in
+    let notes = c.loop-place.invariant.2 in
     let place = get_or c.places-place-items.result.now i None in
     let stands_at : place ≡ get_or (vec_items ledger.places) i None = ap (λ (ps : List (Option Reading)). get_or ps i None) c.places-place-items.ensures in
     let Kept : ℕ → ℕ → Sheet → Type 0 = λ f t x.
-    Spanned day f t old x × ((s : Setting) (h : History) → Told s h ledger old → SharedTo s h (vec_items ledger.places) (i + 1) day f t old x) in
+    Spanned day f t old x × ((s : Setting) (h : History) → Told s h ledger old → SharedTo s h (vec_items ledger.places) (i + 1) day f t old x) × (x.notes ≡ old.notes) in
     elim c.match-reading_over.branch [
       | in-Some w ↦
           let reading = w.in-Some.reading in
@@ -39,6 +40,7 @@ loop-place-preserved c =
                 let told_now = told_only spanned.only told in
                 shared_more day i from to told spanned so_far new reading is found.1
                 (w.share_reading.ensures.law s h ledger told_now (held_shareable told_now reading (placed_is_held told.follows i reading is))),
+            w.share_reading.ensures.notes ∙ notes,
           )
       | in_default w ↦
           moved Kept from c.match-reading_over.span.from to c.match-reading_over.span.to b c.match-reading_over.self (ap (λ (x : Span). x.from) w.span-is)
@@ -48,6 +50,7 @@ loop-place-preserved c =
                 let so_far = c.loop-place.invariant.1 s h told in
                 shared_skip day i from to told spanned so_far
                 (λ r is. placed_not_found b day place w.in_default.ensures.law r (stands_at ∙ is) (placed_lies day i from to told spanned so_far i r is)),
+            notes,
           )
     ]
 

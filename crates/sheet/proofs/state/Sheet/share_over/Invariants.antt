@@ -1,4 +1,4 @@
-use Rattle.std.proofs.Common.{vec_items}
+use Rattle.std.proofs.Common.{◌≡◌, vec_items}
 use Rattle.histories.specs.History.{History, Setting}
 use Rattle.sheet.specs.Told.{Told}
 use Rattle.sheet.proofs.Joining.{SharedTo, Spanned}
@@ -8,3 +8,4 @@ abbrev pub invariant-loop-place : goal.invariant-loop-place
 invariant-loop-place l =
     Spanned l.day l.span.from l.span.to l.initial.self l.self
     × ((s : Setting) (h : History) → Told s h l.ledger l.initial.self → SharedTo s h (vec_items l.ledger.places) l.place-index l.day l.span.from l.span.to l.initial.self l.self)
+    × (l.self.notes ≡ l.initial.self.notes)

@@ -39,9 +39,10 @@ loop-point-preserved-then-not-is_covered c =
     let written : Written (length c.loop-point.yielded + 1) c.args.day row.figure c.loop-point.self c.show.new.self = subst (λ (q : ℕ). Written q c.args.day row.figure c.loop-point.self c.show.new.self) at there in
     rw length-append (
       written_only written only (omega arith) few (omega arith) (omega arith),
+      here.notes ∙ c.loop-point.invariant.1,
       λ s h told.
           let none : is_some (covering h (length c.loop-point.yielded + 1) c.args.day) ≡ false = ap (λ (q : ℕ). is_some (covering h q c.args.day)) (sym at) ∙ sym (c.is_covered.ensures s h (told_only only told)) ∙ c.if-not-is_covered.true in
-          shown_written (c.loop-point.invariant.1 s h told) none (only.points ∙ told.points) (omega (arith, few, only.points, told.points)) written
+          shown_written (c.loop-point.invariant.2 s h told) none (only.points ∙ told.points) (omega (arith, few, only.points, told.points)) written
           (sym (get_or-map (λ (r : EstimatedPoint). r.figure) c.args.rows.now (length c.loop-point.yielded) row 0 turn.0 ∙ sym (ap (λ (r : EstimatedPoint). r.figure) (turn.2 row)))),
     )
 
@@ -52,7 +53,8 @@ loop-point-preserved c =
     let at : c.in-Some.point ≡ length c.loop-point.yielded + 1 = omega (arith, turn.1) in
     rw length-append (
       only,
+      c.loop-point.invariant.1,
       λ s h told.
           let covers : is_some (covering h (length c.loop-point.yielded + 1) c.args.day) ≡ true = ap (λ (q : ℕ). is_some (covering h q c.args.day)) (sym at) ∙ sym (c.is_covered.ensures s h (told_only only told)) ∙ c.if-not-is_covered.false in
-          shown_kept (c.loop-point.invariant.1 s h told) covers refl,
+          shown_kept (c.loop-point.invariant.2 s h told) covers refl,
     )

@@ -1,4 +1,4 @@
-use Rattle.std.proofs.Common.{◌+◌, length}
+use Rattle.std.proofs.Common.{◌≡◌, ◌+◌, length}
 use Rattle.histories.specs.History.{History, Setting}
 use Rattle.sheet.specs.Cells.{OnlyDays}
 use Rattle.sheet.specs.Scaling.{figures_of}
@@ -9,4 +9,5 @@ use Rattle.sheet.proofs.state.Sheet.show_generated.Given as goal
 abbrev pub invariant-loop-point : goal.invariant-loop-point
 invariant-loop-point l =
     OnlyDays l.day (l.day + 1) l.initial.self l.self
+    × (l.self.notes ≡ l.initial.self.notes)
     × ((s : Setting) (h : History) → Told s h l.ledger l.initial.self → Shown h s.points l.day (figures_of l.rows) (length l.yielded) l.initial.self l.self)

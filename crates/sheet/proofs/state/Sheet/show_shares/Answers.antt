@@ -27,8 +27,9 @@ loop-day-preserved c =
     rw length-append (
       shown_more c.args.self.now c.loop-day.self c.show.new.self c.args.point c.args.start i row.share only c.requires.point.0 c.requires.point.1 figures
           shown.days shown.points shown.loads shown.covered,
+      shown.notes ∙ c.loop-day.invariant.1,
       cells_more c.args.self.now c.loop-day.self c.show.new.self c.args.point c.args.start i row.share only c.requires.point.0 c.requires.point.1 figures
-          (shares_of rows) shown.points within share_is c.loop-day.invariant.1,
+          (shares_of rows) shown.points within share_is c.loop-day.invariant.2,
     )
 
 pub returns : goal.returns
@@ -36,5 +37,6 @@ returns c =
     let all = numbered_end c.args.start c.args.self.now.days c.args.rows.now c.loop-day.yielded c.into_iter-day-iterator.result c.loop-day.day-iterator c.next.new.self c.next.result (search rules) (search rules) c.loop-day.yielded_by (omega (arith, c.requires.days)) c.in-None.is c.next.ensures.steps in
     record {
       stands = rw all at c.loop-day.invariant.0;
-      cells = rw all at c.loop-day.invariant.1;
+      notes = c.loop-day.invariant.1;
+      cells = rw all at c.loop-day.invariant.2;
     }

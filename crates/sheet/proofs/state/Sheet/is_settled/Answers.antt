@@ -1,0 +1,29 @@
+use Rattle.std.proofs.Common.{◌≡◌, ◌<◌, ◌≤◌, true, rules, sym, ◌∙◌, subst, arith}
+use Rattle.std.proofs.lemmas.Bool.{leb-true}
+use Rattle.sheet_laws.proofs.Bounds.{load_bounded}
+use Rattle.sheet.specs.Noted.{NoteHolds}
+use Rattle.sheet.proofs.Notes.{nothing_settled, unloaded_settled, within_settled}
+use Rattle.sheet.proofs.state.Sheet.is_settled.Goals as goal
+
+pub returns-in-NothingEstimated : goal.returns-in-NothingEstimated
+returns-in-NothingEstimated c = λ s h l told ready yes.
+    let b = c.args.self.now in
+    let noted = subst (NoteHolds s h c.args.self.now c.args.day) c.in-NothingEstimated.is ready.1 in
+    nothing_settled s h b c.args.day ready.0 noted
+
+pub returns-in-Some : goal.returns-in-Some
+returns-in-Some c = λ s h l told ready yes.
+    let b = c.args.self.now in
+    let day = c.args.day in
+    let n = c.in-Some.load in
+    let noted = subst (NoteHolds s h c.args.self.now c.args.day) c.in-EstimatesShown.is ready.1 in
+    let within : c.args.day < s.days = omega (arith, told.days, c.requires) in
+    let loaded = sym (told.loads c.args.day within) ∙ c.in-Some.is in
+    within_settled s h b day n c.sum_of.result told.points loaded (load_bounded s h told.lawful day n loaded)
+    (c.sum_of.ensures (λ p. true) (λ p answer has e. search rules)) (leb-true c.sum_of.result n yes) ready.0 noted
+
+pub returns-in-None : goal.returns-in-None
+returns-in-None c = λ s h l told ready yes.
+    let noted = subst (NoteHolds s h c.args.self.now c.args.day) c.in-EstimatesShown.is ready.1 in
+    let within : c.args.day < s.days = omega (arith, told.days, c.requires) in
+    unloaded_settled s h c.args.self.now c.args.day (sym (told.loads c.args.day within) ∙ c.in-None.is) ready.0 noted
