@@ -11,11 +11,14 @@ pub fn replaces(new: &Reading, old: &Reading) -> bool
     new.point == old.point && new.start < old.end && old.start < new.end
 }
 
-// What a new reading leaves of a place: nothing where it replaces the reading there.
-fn left_by(new: &Reading, place: Option<Reading>) -> Option<Reading>
-    ensures { result ≡ left_by new.now place }
+// Frees a place where a new reading replaces the one in it.
+// In place: written back as a filtered copy, all places were written for each reading.
+fn free_where_replaced(place: &mut Option<Reading>, new: &Reading)
+    ensures { place.new ≡ left_by new.now place.old }
 {
-    place.filter(|old| !replaces(new, old))
+    if place.is_some_and(|old| replaces(new, &old)) {
+        *place = None;
+    }
 }
 
 // Frees the places of the readings that a new one replaces.
@@ -23,7 +26,7 @@ pub fn free_replaced(places: &mut [Option<Reading>], new: &Reading)
     ensures { places.new ≡ map (left_by new.now) places.old }
 {
     for place in places.iter_mut() {
-        *place = left_by(new, *place);
+        free_where_replaced(place, new);
     }
 }
 

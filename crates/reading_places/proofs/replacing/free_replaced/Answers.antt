@@ -6,6 +6,6 @@ use Rattle.reading_places.proofs.replacing.free_replaced.Goals as goal
 
 pub loop-place-preserved : goal.loop-place-preserved
 loop-place-preserved c =
-    ap (set c.loop-place.places c.loop-place.place-index) c.left_by.ensures
+    ap (set c.loop-place.places c.loop-place.place-index) c.free_where_replaced.ensures
     ∙ map_over_more (left_by c.args.new.now) c.args.places.now c.loop-place.places c.loop-place.place-index (get_or c.loop-place.places c.loop-place.place-index None) c.loop-place-test.true c.loop-place.invariant
     (get_or_default c.loop-place.places c.loop-place.place-index None _ (omega (arith, c.loop-place.auto.places)))
