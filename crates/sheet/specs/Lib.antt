@@ -9,3 +9,4 @@ pub mod Shares
 pub mod Showing
 pub mod Sums
 pub mod Told
+pub mod Weights

@@ -1,19 +1,11 @@
 -- The shares of readings that a sheet shows.
-use Rattle.std.specs.Prelude.{◌≡◌, ℕ, ◌<◌, ◌≤◌, Bool, true, false, cond, ◌&&◌, List, map, is_some, Some, nat_le, nat_lt}
+use Rattle.std.specs.Prelude.{◌≡◌, ℕ, ◌<◌, ◌≤◌, Bool, true, false, cond, ◌&&◌, is_some, Some, nat_le, nat_lt}
 use Rattle.histories.specs.Figures.{share_on}
 use Rattle.histories.specs.History.{History, Setting, covering, covers}
 use Rattle.histories.specs.Readings.{joined}
 use Rattle.histories.specs.declared.entry.Reading.{Reading}
-use Rattle.sharing.specs.declared.reading_day.ReadingDay.{ReadingDay}
 use Rattle.sheet.specs.Cells.{cell}
 use Rattle.sheet.specs.declared.state.Sheet.{Sheet}
-
--- the weights of some days of a reading, and their shares
-abbrev pub weights_of : List ReadingDay → List ℕ
-weights_of rows = map (λ row. row.weight) rows
-
-abbrev pub shares_of : List ReadingDay → List ℕ
-shares_of rows = map (λ row. row.share) rows
 
 -- a reading lies in a sheet: its point and its days are those of the sheet, and it covers a day
 pub record LiesIn (b : Sheet) (r : Reading) : Type 0 where

@@ -30,6 +30,7 @@ impl Sheet {
         ensures loads { self.new.loads ≡ self.old.loads }
         ensures covered { self.new.covered_to ≡ self.old.covered_to }
         ensures notes { self.new.notes ≡ self.old.notes }
+        ensures weighed { self.new.weighed ≡ self.old.weighed }
         ensures figures { self.new.figures.items ≡ slice_set self.old.figures.items (day * self.old.points + (point - 1)) figure }
         ensures within { day * self.old.points + (point - 1) < vec_len self.old.figures }
     {

@@ -51,7 +51,7 @@ impl Sheet {
         ensures free { place.now ≡ Option.None → result ≡ Option.None }
         ensures law { (reading : Reading) → place.now ≡ Option.Some reading → LiesIn self.now reading → result ≡ (if covers reading reading.point day then Option.Some reading else Option.None) }
     {
-        place.filter(|reading| self.holds(reading) && (reading.start..reading.end).contains(&day))
+        place.filter(|reading| (reading.start..reading.end).contains(&day) && self.holds(reading))
     }
 
     // Shares the readings that cover a day anew, and says between which days those lie that they join to it.

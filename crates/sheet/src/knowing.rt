@@ -1,15 +1,29 @@
-ghost use Rattle.std.specs.Prelude.{◌≡◌, ◌-◌, ◌<◌, max, length, replicate, slice_index_or};
+ghost use Rattle.std.specs.Prelude.{◌≡◌, ◌-◌, ◌<◌, ◌≤◌, max, IfSome, length, replicate, slice_index_or};
 ghost use Rattle.histories.specs.Figures as law;
 ghost use Rattle.histories.specs.History.{History, Setting};
 ghost use Rattle.ledger.specs.Told.{Follows};
 ghost use Rattle.sheet.specs.Cells.{HasDay, HasPoint};
 ghost use Rattle.sheet.specs.Learning.{WithCover, WithLoad, WithNote};
+ghost use Rattle.sheet.specs.Weights.{weight_by};
 ghost use Rattle.sheet.specs.declared.day_note.DayNote.TheVariants.{Unsettled};
 
 use super::day_note::DayNote;
 use super::state::Sheet;
 use estimators::DAYS;
 use ledger::Ledger;
+use loads::weight_of;
+use sharing::ReadingDay;
+
+// A day with this load by its weight, without a share yet.
+fn weighed_by(load: Option<u64>) -> ReadingDay
+    requires { IfSome load (λ n. n ≤ 1000000000) }
+    ensures { result.weight ≡ weight_by load }
+{
+    ReadingDay {
+        weight: weight_of(load.unwrap_or(0)),
+        share: 0,
+    }
+}
 
 impl Sheet {
     // Learns the load of a day of the sheet from the ledger.
@@ -20,7 +34,9 @@ impl Sheet {
         ensures notes { self.new.notes ≡ self.old.notes }
         ensures after { (s : Setting) (h : History) → Follows s h ledger.now → WithLoad day (law.load s h day) self.old self.new }
     {
-        self.loads[day as usize] = ledger.load(day);
+        let load = ledger.load(day);
+        self.loads[day as usize] = load;
+        self.weighed[day as usize] = weighed_by(load);
     }
 
     // The days of a point are covered up to this day.

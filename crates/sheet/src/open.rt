@@ -7,6 +7,13 @@ use super::day_note::DayNote;
 use super::state::Sheet;
 use estimators::{DAYS, POINTS};
 use ledger::clear_front;
+use sharing::ReadingDay;
+
+// The weight of a day without a load.
+const UNLOADED: ReadingDay = ReadingDay {
+    weight: 1,
+    share: 0,
+};
 
 // A list whose places in a sheet of so many days and points are cleared.
 // Apart from `open`: in one function the clause `stands` did not prove.
@@ -34,6 +41,7 @@ impl Sheet {
             points,
             figures: emptied(days, points, figures),
             loads: [None; DAYS as usize],
+            weighed: [UNLOADED; DAYS as usize],
             covered_to: [0; POINTS as usize],
             notes: [DayNote::Unsettled; DAYS as usize],
         })
