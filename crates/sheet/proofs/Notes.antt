@@ -1,12 +1,12 @@
 -- What is noted of a day: that it holds once the day is settled, that it tells when the day is, and when it stands. Assumes nothing.
 use Rattle.std.proofs.Common.{◌≡◌, ℕ, zero, suc, ◌+◌, ◌-◌, ◌^◌, ◌<◌, ◌≤◌, min, Bool, true, false, cond, not, ◌&&◌, eqb, ltb, ◌∷◌, map, get_or, set, length, is_some, Some, None, sum, vec_items, vec_len, Option, unwrap_or, sym, refl, ap, ◌∙◌, subst, ⊎_elim, arith}
-use Rattle.std.proofs.lemmas.Bool.{and_left, and_right, both_ways, cases_Bool, cond-false, le-ltb, ltb-false, ne_eqb}
+use Rattle.std.proofs.lemmas.Bool.{and_from, and_left, and_right, both_ways, cases_Bool, cases_lt, cond-false, cond-true, lt-ltb, le-ltb, ltb-false, ne_eqb}
 use Rattle.std.proofs.lemmas.List.FromFn.{get_or-map-range_with_len}
-use Rattle.std.proofs.lemmas.List.Sums.{sum_by-cons}
-use Rattle.std.proofs.lemmas.List.{get_or-set_other, get_or-set_same}
+use Rattle.std.proofs.lemmas.List.Sums.{get_or-le-sum_by, sum_by-cons}
+use Rattle.std.proofs.lemmas.List.{get_or_past, get_or-set_other, get_or-set_same}
 use Rattle.std.specs.List.{range_with_len}
 use Rattle.std.specs.Option.{option_map}
-use Rattle.figure_laws.proofs.Balanced.{supplied_shows}
+use Rattle.figure_laws.proofs.Balanced.{exceeded_means, scaling_only_lowers, supplied_shows}
 use Rattle.figure_laws.proofs.Day.{covered_not_estimated}
 use Rattle.figure_laws.proofs.Local.{silent, stays_covered}
 use Rattle.figure_laws.proofs.Over.{map_over, sum_added}
@@ -14,15 +14,17 @@ use Rattle.histories.specs.Figures.{active, begun, estimate, estimate_counted, e
 use Rattle.histories.specs.History.{History, Setting, count_in, covering}
 use Rattle.histories.specs.declared.entry.Entry.TheVariants.{DegreeDaysEntered, ReadingTaken}
 use Rattle.histories.specs.declared.entry.Reading.{Reading}
+use Rattle.sharing.specs.Sharing.{shares}
+use Rattle.sheet_laws.proofs.Bounds.{share_most}
 use Rattle.sheet_laws.specs.LoadMoved.{LoadMoved}
 use Rattle.sheet.specs.Cells.{OnlyDays, cell}
 use Rattle.sheet.specs.Learning.{WithNote}
-use Rattle.sheet.specs.Noted.{NoteHolds, Noted, NotesStand, Ready, Settled, ShowsEstimates}
+use Rattle.sheet.specs.Noted.{NoteHolds, Noted, NotesStand, Ready, Settled, ShowsEstimates, ShowsNothing}
 use Rattle.sheet.specs.Scaling.{note_of}
 use Rattle.sheet.specs.Showing.{ShowsDay, ShowsSupplied}
 use Rattle.sheet.specs.Sums.{counted_sum}
 use Rattle.sheet.specs.declared.day_note.DayNote.{DayNote}
-use Rattle.sheet.specs.declared.day_note.DayNote.TheVariants.{Unsettled, NothingEstimated, EstimatesShown}
+use Rattle.sheet.specs.declared.day_note.DayNote.TheVariants.{Unsettled, NothingEstimated, EstimatesShown, NothingLeft}
 use Rattle.sheet.specs.declared.state.Sheet.{Sheet}
 use Rattle.sheet.proofs.Stretches.{Outside, cell_stands, day_stands, supplied_stands}
 
@@ -50,15 +52,44 @@ module _ (s : Setting) (h : History) (d : ℕ) (stand : exceeded (supplied_sum s
       go None e = estimates_shown p low high (ap is_some e) ∙ sym (figure_uncovered p low high (ap is_some e))
       go (Some r) e = supplied_shown p (share_on s h d r) low high (ap (option_map (share_on s h d)) e) ∙ sym (supplied_shows s h p d r e)
 
+-- Where a load leaves nothing, points that no reading covers show 0.
+
+-- a point that no reading covers has its generated figure
+figure_generated : (s : Setting) (h : History) (d p : ℕ) → is_some (covering h p d) ≡ false → figure s h p d ≡ get_or (generated s h d) (p - 1) 0
+figure_generated s h d p none = go (covering h p d) refl
+  where
+    go : (o : Option Reading) → covering h p d ≡ o → figure s h p d ≡ get_or (generated s h d) (p - 1) 0
+    go None e = ap (λ o. unwrap_or (option_map (share_on s h d) o) (get_or (generated s h d) (p - 1) 0)) e
+    go (Some r) e = absurd (both_ways (is_some (covering h p d)) none (ap is_some e))
+
+-- which is 0 where estimates are scaled and nothing is left
+nothing_generated : (s : Setting) (h : History) (d : ℕ) → unwrap_or (load s h d) 0 ≤ supplied_sum s h d → exceeded (supplied_sum s h d) (estimates_sum s h d) (load s h d) ≡ true
+    → (k : ℕ) → get_or (generated s h d) k 0 ≡ 0
+nothing_generated s h d none_left scaled k =
+    let means = exceeded_means (supplied_sum s h d) (estimates_sum s h d) (load s h d) scaled in
+    let most = share_most (unwrap_or (load s h d) 0 - supplied_sum s h d) (estimates s h d) k means.1 in
+    ap (λ row. get_or row k 0) (cond-true (exceeded (supplied_sum s h d) (estimates_sum s h d) (load s h d)) (shares (unwrap_or (load s h d) 0 - supplied_sum s h d) (estimates s h d)) (estimates s h d) scaled)
+    ∙ omega (arith, most, none_left)
+
+-- or where they come to nothing
+nothing_of_nothing : (s : Setting) (h : History) (d : ℕ) → estimates_sum s h d ≤ 0 → (k : ℕ) → get_or (generated s h d) k 0 ≡ 0
+nothing_of_nothing s h d none k =
+    let each : get_or (estimates s h d) k 0 ≡ 0 =
+    ⊎_elim (λ within. omega (arith, get_or-le-sum_by (λ x. x) (estimates s h d) k 0 within, none)) (λ past. get_or_past (estimates s h d) k 0 past) (cases_lt k (length (estimates s h d))) in
+    omega (arith, scaling_only_lowers s h d k, each)
+
 -- what is noted of a day that shows its figures is so
 pub note_settled : (s : Setting) (h : History) (b : Sheet) (d : ℕ) → ShowsDay s h b d → NoteHolds s h b d (note_of (load s h d) (supplied_sum s h d) (estimates s h d))
-note_settled s h b d shows = go (exceeded (supplied_sum s h d) (estimates_sum s h d) (load s h d)) (ltb 0 (estimates_sum s h d)) refl refl
+note_settled s h b d shows =
+    go (exceeded (supplied_sum s h d) (estimates_sum s h d) (load s h d)) (ltb 0 (estimates_sum s h d)) (ltb (supplied_sum s h d) (unwrap_or (load s h d) 0)) refl refl refl
   where
-    go : (x y : Bool) → exceeded (supplied_sum s h d) (estimates_sum s h d) (load s h d) ≡ x → ltb 0 (estimates_sum s h d) ≡ y
-        → NoteHolds s h b d (cond x Unsettled (cond y EstimatesShown NothingEstimated))
-    go true y e f = tt
-    go false true e f = shows_estimates s h d e b shows
-    go false false e f = (omega (arith, ltb-false 0 (estimates_sum s h d) f), shows_estimates s h d e b shows)
+    go : (x y z : Bool) → exceeded (supplied_sum s h d) (estimates_sum s h d) (load s h d) ≡ x → ltb 0 (estimates_sum s h d) ≡ y → ltb (supplied_sum s h d) (unwrap_or (load s h d) 0) ≡ z
+        → NoteHolds s h b d (cond x (cond z Unsettled NothingLeft) (cond y EstimatesShown NothingEstimated))
+    go true y true e f g = tt
+    go true y false e f g = λ p low high none.
+        shows p low high ∙ figure_generated s h d p none ∙ nothing_generated s h d (ltb-false (supplied_sum s h d) (unwrap_or (load s h d) 0) g) e (p - 1)
+    go false true z e f g = shows_estimates s h d e b shows
+    go false false z e f g = (omega (arith, ltb-false 0 (estimates_sum s h d) f), shows_estimates s h d e b shows)
 
 -- estimates that come to nothing are not scaled
 nothing_stands : (a g : ℕ) (o : Option ℕ) → g ≡ 0 → exceeded a g o ≡ false
@@ -100,6 +131,40 @@ within_settled s h b d n total many loaded small total_is within supplied_shown 
     (ap (exceeded (supplied_sum s h d) (estimates_sum s h d)) loaded ∙ and_left (ltb n (supplied_sum s h d + estimates_sum s h d)) (ltb 0 (estimates_sum s h d)) (le-ltb n (supplied_sum s h d + estimates_sum s h d) below))
     b supplied_shown estimates_shown
 
+-- a day whose supplied energy takes the whole load is settled where its other points show 0
+supplied_alone : (s : Setting) (h : History) (b : Sheet) (d : ℕ) → b.points ≡ s.points → ShowsSupplied s h b d → ShowsNothing s h b d
+    → counted_sum (λ p. true) b d b.points ≡ supplied_sum s h d
+unfolding counted_sum
+supplied_alone s h b d many supplied_shown nothing_shown =
+    ap (λ n. sum (map (λ p. cell b p d) (range_with_len 1 n))) many
+    ∙ ap sum (map_over (λ p. cell b p d) (λ p. unwrap_or (supplied s h p d) 0) 1 s.points (λ p low high. go p low (omega arith) (covering h p d) refl))
+  where
+    go : (p : ℕ) → 1 ≤ p → p ≤ s.points → (o : Option Reading) → covering h p d ≡ o → cell b p d ≡ unwrap_or (supplied s h p d) 0
+    go p low high None e = nothing_shown p low high (ap is_some e) ∙ sym (ap (λ o. unwrap_or (option_map (share_on s h d) o) 0) e)
+    go p low high (Some r) e =
+        supplied_shown p (share_on s h d r) low high (ap (option_map (share_on s h d)) e) ∙ sym (ap (λ o. unwrap_or (option_map (share_on s h d) o) 0) e)
+
+pub left_settled : (s : Setting) (h : History) (b : Sheet) (d n total : ℕ) → b.points ≡ s.points → load s h d ≡ Some n
+    → total ≡ min (counted_sum (λ p. true) b d b.points) (2 ^ 64 - 1) → n ≤ total → ShowsSupplied s h b d → ShowsNothing s h b d → ShowsDay s h b d
+left_settled s h b d n total many loaded total_is over supplied_shown nothing_shown p low high = go (covering h p d) refl
+  where
+    none_left : n ≤ supplied_sum s h d
+    none_left = omega (arith, supplied_alone s h b d many supplied_shown nothing_shown, total_is, over)
+
+    nothing : get_or (generated s h d) (p - 1) 0 ≡ 0
+    nothing =
+        ⊎_elim
+        (λ (some : 0 < estimates_sum s h d).
+        nothing_generated s h d (rw loaded none_left)
+        (ap (exceeded (supplied_sum s h d) (estimates_sum s h d)) loaded
+        ∙ and_from (ltb n (supplied_sum s h d + estimates_sum s h d)) (ltb 0 (estimates_sum s h d)) (lt-ltb n (supplied_sum s h d + estimates_sum s h d) (omega (arith, none_left, some))) (lt-ltb 0 (estimates_sum s h d) some))
+        (p - 1))
+        (λ (none : estimates_sum s h d ≤ 0). nothing_of_nothing s h d none (p - 1)) (cases_lt 0 (estimates_sum s h d))
+
+    go : (o : Option Reading) → covering h p d ≡ o → cell b p d ≡ figure s h p d
+    go None e = nothing_shown p low high (ap is_some e) ∙ sym nothing ∙ sym (figure_generated s h d p (ap is_some e))
+    go (Some r) e = supplied_shown p (share_on s h d r) low high (ap (option_map (share_on s h d)) e) ∙ sym (supplied_shows s h p d r e)
+
 -- Entries that leave the estimates of a day.
 
 -- each point that no reading covers under the longer history was so before, and has the same estimate
@@ -136,6 +201,7 @@ module _ {s : Setting} {h new : History} {d : ℕ} (kept : EstimatesKept s h new
     note_kept NothingEstimated noted =
         (omega (arith, noted.0, sum_lower (λ p. estimate_counted s new p d) (λ p. estimate_counted s h p d) lower 1 s.points), shows_kept noted.1)
     note_kept EstimatesShown noted = shows_kept noted
+    note_kept NothingLeft noted = λ p low high none. cells p low high none ∙ noted p low high (kept.uncovered p none)
 
     pub noted_kept : get_or b.notes d Unsettled ≡ get_or old.notes d Unsettled → Noted s h old d → Noted s new b d
     noted_kept same noted = subst (NoteHolds s new b d) (sym same) (note_kept (get_or old.notes d Unsettled) noted)

@@ -1,7 +1,7 @@
 -- Rows of estimated points, and what scaling makes of them. Assumes nothing.
-use Rattle.std.proofs.Common.{◌≡◌, ℕ, ◌+◌, ◌-◌, ◌*◌, ◌<◌, ◌≤◌, Bool, true, cond, T, leb, List, length, get_or, set, IfSome, Some, None, Ok, Err, Result, sum, Option, unwrap_or, sym, refl, ap, ◌∙◌, subst, ⊎_elim, mul-le-mul, arith, le→leb}
+use Rattle.std.proofs.Common.{◌≡◌, ℕ, ◌+◌, ◌-◌, ◌*◌, ◌<◌, ◌≤◌, Bool, true, cond, T, leb, ltb, List, length, get_or, set, IfSome, Some, None, Ok, Err, Result, sum, Option, unwrap_or, sym, refl, ap, ◌∙◌, subst, ⊎_elim, mul-le-mul, arith, le→leb}
 use Rattle.std.proofs.lemmas.List.{get_or-set_other, get_or-set_same, length-map, map-set}
-use Rattle.std.proofs.lemmas.Bool.{and_from, cases_eq, le-leb, lt-ltb}
+use Rattle.std.proofs.lemmas.Bool.{and_from, cases_eq, cases_lt, cond-true, le-leb, le-ltb, lt-ltb}
 use Rattle.std.specs.Result.{IsOk}
 use Rattle.histories.specs.Figures.{exceeded}
 use Rattle.loads.specs.Loads.{largest_gate}
@@ -15,7 +15,8 @@ use Rattle.sharing.specs.Sharing.{can_share, shares}
 use Rattle.sharing.specs.declared.estimated_point.EstimatedPoint.{EstimatedPoint}
 use Rattle.sheet_laws.proofs.Rows.{handed_figures}
 use Rattle.sheet.specs.Limits.{load_within}
-use Rattle.sheet.specs.Scaling.{estimates_of, figures_of, scaled}
+use Rattle.sheet.specs.declared.day_note.DayNote.TheVariants.{Unsettled, NothingLeft}
+use Rattle.sheet.specs.Scaling.{estimates_of, figures_of, note_of, scaled}
 
 -- a load can be shared over the estimates of a day's points, where some estimate is above 0
 load_shareable : (c n : ℕ) → c ≤ 1000000000 → n ≤ 256 → leb (c * n * 1000000) largest_product ≡ true
@@ -50,6 +51,19 @@ exceeds a g n above some = and_from _ _ (lt-ltb n (a + g) above) (lt-ltb 0 g som
 
 pub scaled_by : (load : Option ℕ) (supplied : ℕ) (es figures : List ℕ) → exceeded supplied (sum es) load ≡ true → figures ≡ shares (unwrap_or load 0 - supplied) es → figures ≡ scaled load supplied es
 scaled_by load supplied es figures exceeds is = is ∙ ap (λ t. cond t (shares (unwrap_or load 0 - supplied) es) es) (sym exceeds)
+
+-- and what is noted of it then
+pub noted_scaled : (load : Option ℕ) (supplied n left : ℕ) (es : List ℕ) → load ≡ Some n → left ≡ n - supplied → n < supplied + sum es → 0 < sum es
+    → cond (ltb 0 left) Unsettled NothingLeft ≡ note_of load supplied es
+noted_scaled load supplied n left es is left_is above some =
+    ap (λ t. cond t Unsettled NothingLeft) (test ∙ ap (λ o. ltb supplied (unwrap_or o 0)) (sym is))
+    ∙ sym (cond-true (exceeded supplied (sum es) load) _ _ (ap (exceeded supplied (sum es)) is ∙ exceeds supplied (sum es) n above some))
+  where
+    test : ltb 0 left ≡ ltb supplied n
+    test =
+        ⊎_elim
+        (λ (more : supplied < n). lt-ltb 0 left (omega arith) ∙ sym (lt-ltb supplied n more))
+        (λ (none : n ≤ supplied). le-ltb 0 left (omega arith) ∙ sym (le-ltb supplied n none)) (cases_lt supplied n)
 
 -- one row more is written: what holds of each row written so far, and of the new one, holds of each
 pub written_more : (rows : List EstimatedPoint) (i : ℕ) (new : EstimatedPoint) → i < length rows → (P : ℕ → ℕ → ℕ → Type 0)

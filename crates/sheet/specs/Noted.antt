@@ -5,18 +5,23 @@ use Rattle.histories.specs.History.{History, Setting, covering}
 use Rattle.sheet.specs.Cells.{cell}
 use Rattle.sheet.specs.Showing.{ShowsDay, ShowsSupplied}
 use Rattle.sheet.specs.declared.day_note.DayNote.{DayNote}
-use Rattle.sheet.specs.declared.day_note.DayNote.TheVariants.{Unsettled, NothingEstimated, EstimatesShown}
+use Rattle.sheet.specs.declared.day_note.DayNote.TheVariants.{Unsettled, NothingEstimated, EstimatesShown, NothingLeft}
 use Rattle.sheet.specs.declared.state.Sheet.{Sheet}
 
 -- each point that no reading covers on a day shows its estimate as it is
 abbrev pub ShowsEstimates : Setting → History → Sheet → ℕ → Type 0
 ShowsEstimates s h b d = (p : ℕ) → 1 ≤ p → p ≤ s.points → is_some (covering h p d) ≡ false → cell b p d ≡ estimate_counted s h p d
 
+-- each point that no reading covers on a day shows 0
+abbrev pub ShowsNothing : Setting → History → Sheet → ℕ → Type 0
+ShowsNothing s h b d = (p : ℕ) → 1 ≤ p → p ≤ s.points → is_some (covering h p d) ≡ false → cell b p d ≡ 0
+
 -- what a note says of a day
 abbrev pub NoteHolds : Setting → History → Sheet → ℕ → DayNote → Type 0
 NoteHolds s h b d Unsettled = Unit {0}
 NoteHolds s h b d NothingEstimated = (estimates_sum s h d ≡ 0) × ShowsEstimates s h b d
 NoteHolds s h b d EstimatesShown = ShowsEstimates s h b d
+NoteHolds s h b d NothingLeft = ShowsNothing s h b d
 
 -- what a sheet has noted of a day is so
 abbrev pub Noted : Setting → History → Sheet → ℕ → Type 0

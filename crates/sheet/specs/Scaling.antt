@@ -5,7 +5,7 @@ use Rattle.histories.specs.Figures.{exceeded}
 use Rattle.sharing.specs.Sharing.{shares}
 use Rattle.sharing.specs.declared.estimated_point.EstimatedPoint.{EstimatedPoint}
 use Rattle.sheet.specs.declared.day_note.DayNote.{DayNote}
-use Rattle.sheet.specs.declared.day_note.DayNote.TheVariants.{Unsettled, NothingEstimated, EstimatesShown}
+use Rattle.sheet.specs.declared.day_note.DayNote.TheVariants.{Unsettled, NothingEstimated, EstimatesShown, NothingLeft}
 
 -- the estimates of some rows, and their figures
 abbrev pub estimates_of : List EstimatedPoint → List ℕ
@@ -20,4 +20,7 @@ scaled load supplied es = cond (exceeded supplied (sum es) load) (shares (unwrap
 
 -- what is noted of a day whose figures are these
 abbrev pub note_of : Option ℕ → ℕ → List ℕ → DayNote
-note_of load supplied es = cond (exceeded supplied (sum es) load) Unsettled (cond (nat_lt 0 (sum es)) EstimatesShown NothingEstimated)
+note_of load supplied es =
+    cond (exceeded supplied (sum es) load)
+    (cond (nat_lt supplied (unwrap_or load 0)) Unsettled NothingLeft)
+    (cond (nat_lt 0 (sum es)) EstimatesShown NothingEstimated)

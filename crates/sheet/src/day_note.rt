@@ -7,4 +7,6 @@ pub enum DayNote {
     NothingEstimated,
     // It shows its estimates as they are.
     EstimatesShown,
+    // Its load leaves nothing beside supplied energy, and its generated figures are 0.
+    NothingLeft,
 }

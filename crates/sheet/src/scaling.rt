@@ -1,5 +1,6 @@
-ghost use Rattle.std.specs.Prelude.{◌≡◌, ◌-◌, ◌≤◌, length, IfSome, sum};
+ghost use Rattle.std.specs.Prelude.{◌≡◌, ◌-◌, ◌≤◌, length, IfSome, if◌then◌else◌, sum, nat_lt};
 ghost use Rattle.sheet.specs.Scaling.{estimates_of, figures_of, note_of, scaled};
+ghost use Rattle.sheet.specs.declared.day_note.DayNote.TheVariants.{Unsettled, NothingLeft};
 
 use super::day_note::DayNote;
 use sharing::{EstimatedPoint, share};
@@ -10,6 +11,17 @@ fn total_of(rows: &[EstimatedPoint]) -> u64
     ensures { result ≡ sum (estimates_of rows.now) }
 {
     rows.iter().map(|row| row.estimate).sum()
+}
+
+// What can be noted of a day whose estimates are scaled to so much.
+fn scaled_to(left: u64) -> DayNote
+    ensures { result ≡ (if nat_lt 0 left then Unsettled else NothingLeft) }
+{
+    if left > 0 {
+        DayNote::Unsettled
+    } else {
+        DayNote::NothingLeft
+    }
 }
 
 // Scales the estimates of a day: where they and supplied energy together exceed its load, what the load leaves is shared over them.
@@ -29,6 +41,7 @@ pub(crate) fn scale(load: Option<u64>, supplied: u64, rows: &mut [EstimatedPoint
     if supplied.saturating_add(estimated) <= load {
         return DayNote::EstimatesShown;
     }
-    share(load.saturating_sub(supplied), rows).unwrap();
-    DayNote::Unsettled
+    let left = load.saturating_sub(supplied);
+    share(left, rows).unwrap();
+    scaled_to(left)
 }

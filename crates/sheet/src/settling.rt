@@ -151,6 +151,10 @@ impl Sheet {
                 Some(load) => self.sum_of(day, |_| true) <= load,
                 None => true,
             },
+            DayNote::NothingLeft => match self.loads[day as usize] {
+                Some(load) => load <= self.sum_of(day, |_| true),
+                None => false,
+            },
         }
     }
 

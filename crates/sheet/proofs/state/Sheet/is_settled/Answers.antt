@@ -2,7 +2,7 @@ use Rattle.std.proofs.Common.{◌≡◌, ◌<◌, ◌≤◌, true, rules, sym, �
 use Rattle.std.proofs.lemmas.Bool.{leb-true}
 use Rattle.sheet_laws.proofs.Bounds.{load_bounded}
 use Rattle.sheet.specs.Noted.{NoteHolds}
-use Rattle.sheet.proofs.Notes.{nothing_settled, unloaded_settled, within_settled}
+use Rattle.sheet.proofs.Notes.{left_settled, nothing_settled, unloaded_settled, within_settled}
 use Rattle.sheet.proofs.state.Sheet.is_settled.Goals as goal
 
 pub returns-in-NothingEstimated : goal.returns-in-NothingEstimated
@@ -27,3 +27,13 @@ returns-in-None c = λ s h l told ready yes.
     let noted = subst (NoteHolds s h c.args.self.now c.args.day) c.in-EstimatesShown.is ready.1 in
     let within : c.args.day < s.days = omega (arith, told.days, c.requires) in
     unloaded_settled s h c.args.self.now c.args.day (sym (told.loads c.args.day within) ∙ c.in-None.is) ready.0 noted
+
+pub returns-in-Some-loads : goal.returns-in-Some-loads
+returns-in-Some-loads c = λ s h l told ready yes.
+    let b = c.args.self.now in
+    let day = c.args.day in
+    let n = c.in-Some-loads.load in
+    let noted = subst (NoteHolds s h c.args.self.now c.args.day) c.in-NothingLeft.is ready.1 in
+    let within : c.args.day < s.days = omega (arith, told.days, c.requires) in
+    left_settled s h b day n c.sum_of-in-Some-loads.result told.points (sym (told.loads c.args.day within) ∙ c.in-Some-loads.is)
+    (c.sum_of-in-Some-loads.ensures (λ p. true) (λ p answer has e. search rules)) (leb-true n c.sum_of-in-Some-loads.result yes) ready.0 noted
