@@ -12,7 +12,7 @@ module _ (counted : ℕ → Bool) (b : Sheet) (d : ℕ) where
   unfolding counted_sum
   counted_none = refl
 
-  counted_more : (n : ℕ) → counted_sum counted b d (n + 1) ≡ counted_sum counted b d n + cond (counted (n + 1)) (cell b (n + 1) d) 0
+  pub counted_more : (n : ℕ) → counted_sum counted b d (n + 1) ≡ counted_sum counted b d n + cond (counted (n + 1)) (cell b (n + 1) d) 0
   unfolding counted_sum
   counted_more n =
       let each : ℕ → ℕ = λ p. cond (counted p) (cell b p d) 0 in

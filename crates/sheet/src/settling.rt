@@ -1,4 +1,4 @@
-ghost use Rattle.std.specs.Prelude.{◌≡◌, ℕ, ◌+◌, ◌-◌, ◌<◌, ◌≤◌, true, length, is_some, IfSome, if◌then◌else◌, slice_index};
+ghost use Rattle.std.specs.Prelude.{◌≡◌, ℕ, ◌+◌, ◌-◌, ◌^◌, ◌<◌, ◌≤◌, min, true, length, is_some, IfSome, if◌then◌else◌, slice_index};
 ghost use Rattle.std.specs.Option.{unwrap_or};
 ghost use Rattle.histories.specs.Figures as law;
 ghost use Rattle.histories.specs.History.{History, Setting, covering};
@@ -7,11 +7,13 @@ ghost use Rattle.ledger.specs.declared.state.Ledger.{Ledger};
 ghost use Rattle.sheet.specs.Noted.{NotesStand, Ready, Settled};
 ghost use Rattle.sheet.specs.Scaling.{estimates_of, figures_of, note_of};
 ghost use Rattle.sheet.specs.Showing.{ShowsDay, ShowsSupplied};
+ghost use Rattle.sheet.specs.Sums.{counted_sum};
 ghost use Rattle.sheet.specs.Told.{EstimatesOn, Told};
 
 use super::day_note::DayNote;
 use super::scaling::scale;
 use super::sources::Sources;
+use super::standing::Standing;
 use super::state::Sheet;
 use estimators::Estimator;
 use ledger::Ledger;
@@ -36,41 +38,58 @@ fn unscaled(estimate: Option<u64>) -> EstimatedPoint
     }
 }
 
+// What a point takes part in a day with: what is supplied to it, or its estimate.
+#[derive(Drop)]
+struct PointPart {
+    supplied: u64,
+    estimate: Option<u64>,
+}
+
 impl Sheet {
-    // The estimate of a point on a day, not scaled yet. A missing one counts as 0, and so does that of a point which is not estimated.
-    fn estimated<E: Estimator>(
-        &self,
-        sources: &Sources<'_, E>,
-        point: u32,
-        day: u32,
-    ) -> EstimatedPoint
+    // The part of a point in a day. One that is not estimated has no estimate, and one that is not covered no supply.
+    fn part_of<E: Estimator>(&self, sources: &Sources<'_, E>, point: u32, day: u32) -> PointPart
         requires { HasCell self.now point day }
-        ensures same { result.figure ≡ result.estimate }
-        ensures law { (s : Setting) (h : History) → Told s h sources.now.ledger.now self.now → EstimatesOn s h day (E.Estimator.meaning sources.now.estimator.now) → result.estimate ≡ law.estimate_counted s h point day }
+        ensures within { IfSome result.estimate (λ x. x ≤ 1000000) }
+        ensures supplied { (s : Setting) (h : History) → Told s h sources.now.ledger.now self.now → result.supplied ≡ (if is_some (covering h point day) then cell self.now point day else 0) }
+        ensures estimate { (s : Setting) (h : History) → Told s h sources.now.ledger.now self.now → EstimatesOn s h day (E.Estimator.meaning sources.now.estimator.now) → unwrap_or result.estimate 0 ≡ law.estimate_counted s h point day }
     {
-        let estimate = if self.is_estimated(sources.ledger, point, day) {
-            sources.estimate_of(point, day)
-        } else {
-            None
-        };
-        unscaled(estimate)
+        match self.standing(sources.ledger, point, day) {
+            Standing::Covered => PointPart {
+                supplied: self.shown(point, day),
+                estimate: None,
+            },
+            Standing::Estimated => PointPart {
+                supplied: 0,
+                estimate: sources.estimate_of(point, day),
+            },
+            Standing::Absent => PointPart {
+                supplied: 0,
+                estimate: None,
+            },
+        }
     }
 
-    // The estimates of a day's points in number order, not scaled yet.
-    fn estimate_all<E: Estimator>(
+    // The estimates of a day's points in number order, not scaled yet, and what its supplied figures come to, in one pass:
+    // or the largest u64 where it is more, and no book comes near it.
+    fn gather<E: Estimator>(
         &self,
         sources: &Sources<'_, E>,
         day: u32,
         rows: &mut [EstimatedPoint],
-    )
+    ) -> u64
         requires { (length rows.old ≡ self.now.points) × HasDay self.now day }
         ensures same { figures_of rows.new ≡ estimates_of rows.new }
-        ensures law { (s : Setting) (h : History) → Told s h sources.now.ledger.now self.now → EstimatesOn s h day (E.Estimator.meaning sources.now.estimator.now) → estimates_of rows.new ≡ law.estimates s h day }
+        ensures estimates { (s : Setting) (h : History) → Told s h sources.now.ledger.now self.now → EstimatesOn s h day (E.Estimator.meaning sources.now.estimator.now) → estimates_of rows.new ≡ law.estimates s h day }
+        ensures supplied { (s : Setting) (h : History) → Told s h sources.now.ledger.now self.now → result ≡ min (counted_sum (λ p. is_some (covering h p day)) self.now day self.now.points) (2 ^ 64 - 1) }
     {
+        let mut supplied = 0u64;
         // `enumerate` and no zip with (1..): through a zip nothing is known of what is written.
         for (i, row) in rows.iter_mut().enumerate() {
-            *row = self.estimated(sources, i as u32 + 1, day);
+            let part = self.part_of(sources, i as u32 + 1, day);
+            supplied = supplied.saturating_add(part.supplied);
+            *row = unscaled(part.estimate);
         }
+        supplied
     }
 
     // Shows the figures of a day's points that no reading covers.
@@ -99,8 +118,7 @@ impl Sheet {
         requires { (length rows.old ≡ self.now.points) × HasDay self.now day }
         ensures { (s : Setting) (h : History) → Told s h sources.now.ledger.now self.now → EstimatesOn s h day (E.Estimator.meaning sources.now.estimator.now) → ShowsSupplied s h self.now day → (figures_of rows.new ≡ law.generated s h day) × (result ≡ note_of (law.load s h day) (law.supplied_sum s h day) (law.estimates s h day)) }
     {
-        let supplied = self.sum_of(day, |point| self.is_covered(sources.ledger, point, day));
-        self.estimate_all(sources, day, rows);
+        let supplied = self.gather(sources, day, rows);
         scale(self.loads[day as usize], supplied, rows)
     }
 

@@ -1,6 +1,5 @@
-use Rattle.std.proofs.Common.{◌≡◌, ◌<◌, ◌≤◌, is_some, ◌∙◌, arith, rules}
+use Rattle.std.proofs.Common.{◌≡◌, ◌<◌, ◌≤◌, ◌∙◌, arith}
 use Rattle.histories.specs.Figures.{supplied_sum}
-use Rattle.histories.specs.History.{covering}
 use Rattle.sheet_laws.proofs.Bounds.{supplied_sum_bounded}
 use Rattle.sheet.specs.Scaling.{note_of, scaled}
 use Rattle.sheet.proofs.Generating.{supplied_shown}
@@ -11,10 +10,10 @@ returns g c = λ s h told on shows.
     let sheet = c.args.self.now in
     let few : s.points ≤ 256 = omega (arith, told.points, sheet.few_points) in
     let day : c.args.day < s.days = omega (arith, told.days, c.requires.1) in
-    let counted = c.sum_of-supplied.ensures (λ p. is_some (covering h p c.args.day)) (λ p answer has e. search (rules, told)) in
+    let counted = c.gather-supplied.ensures.supplied s h told in
     let bounded = supplied_sum_bounded s h told.lawful few c.args.day in
-    let supplied : c.sum_of-supplied.result ≡ supplied_sum s h c.args.day = omega (arith, counted, bounded, supplied_shown s h sheet c.args.day told.points shows) in
-    let estimates = c.estimate_all.ensures.law s h told on in (
+    let supplied : c.gather-supplied.result ≡ supplied_sum s h c.args.day = omega (arith, counted, bounded, supplied_shown s h sheet c.args.day told.points shows) in
+    let estimates = c.gather-supplied.ensures.estimates s h told on in (
       c.scale.ensures.figures ∙ (λ i. scaled (told.loads c.args.day day i) (supplied i) (estimates i)),
       c.scale.ensures.note ∙ (λ i. note_of (told.loads c.args.day day i) (supplied i) (estimates i)),
     )

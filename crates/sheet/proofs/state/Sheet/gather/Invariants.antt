@@ -1,12 +1,14 @@
-use Rattle.std.proofs.Common.{◌≡◌, ℕ, ◌+◌, ◌<◌, get_or}
+use Rattle.std.proofs.Common.{◌≡◌, ℕ, ◌+◌, ◌-◌, ◌^◌, ◌<◌, min, get_or, is_some}
 use Rattle.histories.specs.Figures.{estimate_counted}
-use Rattle.histories.specs.History.{History, Setting}
+use Rattle.histories.specs.History.{History, Setting, covering}
 use Rattle.sheet.specs.Scaling.{estimates_of, figures_of}
+use Rattle.sheet.specs.Sums.{counted_sum}
 use Rattle.sheet.specs.Told.{EstimatesOn, Told}
-use Rattle.sheet.proofs.state.Sheet.estimate_all.Given as goal
+use Rattle.sheet.proofs.state.Sheet.gather.Given as goal
 
 abbrev pub invariant-loop-i : goal.invariant-loop-i
 invariant-loop-i g l =
     ((k : ℕ) → k < l.i → get_or (figures_of l.rows) k 0 ≡ get_or (estimates_of l.rows) k 0)
     × ((s : Setting) (h : History) → Told s h l.sources.ledger.now l.self → EstimatesOn s h l.day (g.E.Estimator.meaning l.sources.estimator.now)
     → (k : ℕ) → k < l.i → get_or (estimates_of l.rows) k 0 ≡ estimate_counted s h (k + 1) l.day)
+    × ((s : Setting) (h : History) → Told s h l.sources.ledger.now l.self → l.supplied ≡ min (counted_sum (λ p. is_some (covering h p l.day)) l.self l.day l.i) (2 ^ 64 - 1))
