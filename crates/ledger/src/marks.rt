@@ -1,34 +1,25 @@
-ghost use Rattle.std.specs.Prelude.{◌≡◌, Bool, not, ◌&&◌, count_by, ◌==◌, nat_le};
+ghost use Rattle.std.specs.Prelude.{◌≡◌, Bool, not, ◌&&◌, ◌==◌, nat_le};
 ghost use Rattle.std.specs.Option.{option_map};
 ghost use Rattle.std.specs.Fn.{FnReturnsAt};
 ghost use Rattle.histories.specs.Calls.{after_all_marks, end_not_allowed};
 ghost use Rattle.histories.specs.History.{History, Setting};
 ghost use Rattle.histories.specs.Readings as held;
 ghost use Rattle.histories.specs.declared.entry.Reading.{Reading};
-ghost use Rattle.reading_places.specs.Places.{AnswersAs, placed};
+ghost use Rattle.reading_places.specs.Places.{AnswersAs};
 ghost use Rattle.ledger.specs.Marks.{after_marks_at, end_allowed_at, mark_at, some_at};
 ghost use Rattle.ledger.specs.Told.{Follows, enrolment_at};
 
 use super::state::Ledger;
 use histories::Reading;
-use reading_places::count_passing;
+use reading_places::some_passing;
 
 impl Ledger {
-    // How many held readings pass a test.
-    pub(crate) fn count_held<F: Fn(&Reading) -> bool>(&self, test: F) -> usize
-        requires { F.IsAlwaysCallable test }
-        ensures value { (passes : Reading → Bool) → AnswersAs (FnReturnsAt F.Fn test) passes → result ≡ count_by (placed passes) self.now.places.items }
-        ensures law { (passes : Reading → Bool) → AnswersAs (FnReturnsAt F.Fn test) passes → (s : Setting) (h : History) → Follows s h self.now → result ≡ count_by passes (held.held_of h) }
-    {
-        count_passing(self.places.as_slice(), test)
-    }
-
     // Whether some held reading passes a test.
     pub(crate) fn holds_some<F: Fn(&Reading) -> bool>(&self, test: F) -> bool
         requires { F.IsAlwaysCallable test }
         ensures { (passes : Reading → Bool) → AnswersAs (FnReturnsAt F.Fn test) passes → result ≡ some_at self.now passes }
     {
-        self.count_held(test) > 0
+        some_passing(self.places.as_slice(), test)
     }
 
     // Whether a reading that a point holds ends on a day.

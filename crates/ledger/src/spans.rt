@@ -9,7 +9,7 @@ ghost use Rattle.ledger.specs.Told.{Follows};
 
 use super::state::Ledger;
 use histories::Reading;
-use reading_places::replaces;
+use reading_places::{all_passing, replaces};
 use refusals::Refusal;
 
 impl Ledger {
@@ -32,7 +32,7 @@ impl Ledger {
     fn is_full_beside(&self, reading: &Reading) -> bool
         ensures { result ≡ full_at self.now reading.now }
     {
-        self.count_held(|old| !replaces(reading, old)) >= self.places.len()
+        all_passing(self.places.as_slice(), |old| !replaces(reading, old))
     }
 
     // Judges what a reading covers: its start, its end, the loads of its days, and the readings that are held.

@@ -1,7 +1,8 @@
 -- Readings counted, freed and put into places. Assumes nothing.
-use Rattle.std.proofs.Common.{◌≡◌, ℕ, suc, ◌+◌, ◌<◌, Bool, true, false, cond, not, ◌&&◌, ◌||◌, ltb, List, [], ◌∷◌, map, length, get_or, set, is_some, Some, None, count_by, filter, Option, sym, refl, ap, ◌∙◌, zero-add, arith, length-set}
+use Rattle.std.proofs.Common.{◌≡◌, ℕ, suc, ◌+◌, ◌<◌, ◌≤◌, Bool, true, false, cond, not, ◌&&◌, ◌||◌, leb, ltb, List, [], ◌∷◌, map, length, get_or, set, is_some, Some, None, count_by, filter, Option, sym, refl, ap, ◌∙◌, ⊎_elim, zero-add, arith, length-set}
 use Rattle.std.proofs.lemmas.List.Sums.{count_by-le-length, sum_by-cons, sum_by-set}
-use Rattle.std.proofs.lemmas.Bool.{lt-ltb, true≢false}
+use Rattle.std.proofs.lemmas.Bool.{cases_lt, le-leb, lt-leb, lt-ltb, true≢false}
+use Rattle.std.specs.List.{list_all, list_any}
 use Rattle.std.specs.Option.{MatchOption}
 use Rattle.histories.specs.Readings.{replaces, some_reading}
 use Rattle.histories.specs.declared.entry.Reading.{Reading}
@@ -24,6 +25,25 @@ some_here false rest n e = rw (zero-add n) e
 pub some_counted : (test : Reading → Bool) (rs : List Reading) → some_reading test rs ≡ ltb 0 (count_by test rs)
 some_counted test [] = refl
 some_counted test (r ∷ rs) = some_here (test r) _ _ (some_counted test rs) ∙ ap (λ n. ltb 0 n) (sym (count_cons test r rs))
+
+-- and so of any test of places
+pub any_counted : {X : Type 0} (p : X → Bool) (xs : List X) → list_any p xs ≡ ltb 0 (count_by p xs)
+any_counted p [] = refl
+any_counted p (x ∷ xs) = some_here (p x) _ _ (any_counted p xs) ∙ ap (λ n. ltb 0 n) (sym (count_cons p x xs))
+
+all_here : (b rest : Bool) (n many : ℕ) → n ≤ many → rest ≡ leb many n → (b && rest) ≡ leb (suc many) (cond b 1 0 + n)
+all_here true rest n many few e =
+    e
+    ∙ ⊎_elim
+    (λ (less : n < many). lt-leb many n less ∙ sym (lt-leb (suc many) (1 + n) (omega arith)))
+    (λ (all : many ≤ n). le-leb many n all ∙ sym (le-leb (suc many) (1 + n) (omega arith))) (cases_lt n many)
+all_here false rest n many few e = sym (lt-leb (suc many) (0 + n) (omega arith))
+
+-- every place passes where as many do as there are
+pub all_counted : {X : Type 0} (p : X → Bool) (xs : List X) → list_all p xs ≡ leb (length xs) (count_by p xs)
+all_counted p [] = refl
+all_counted p (x ∷ xs) =
+    all_here (p x) _ _ (length xs) (count_by-le-length p xs) (all_counted p xs) ∙ ap (λ n. leb (length (x ∷ xs)) n) (sym (count_cons p x xs))
 
 kept_here : {X : Type 0} (p : X → Bool) (x : X) (xs : List X) (b : Bool) → count_by p (cond b (x ∷ xs) xs) ≡ cond (b && p x) 1 0 + count_by p xs
 kept_here p x xs true = count_cons p x xs

@@ -1,8 +1,8 @@
-// The places of held readings: counting, freeing and taking them.
+// The places of held readings: testing, freeing and taking them.
 #![tactic(auto)]
 
-mod counting;
 mod replacing;
+mod testing;
 
-pub use counting::count_passing;
 pub use replacing::{free_replaced, replaces, take_place};
+pub use testing::{all_passing, some_passing};

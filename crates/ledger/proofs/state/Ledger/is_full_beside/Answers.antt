@@ -1,8 +1,10 @@
-use Rattle.std.proofs.Common.{not, leb, vec_len, ap, ◌∙◌, rules, tests}
+use Rattle.std.proofs.Common.{not, leb, count_by, vec_items, rules, sym, ap, ◌∙◌, tests}
 use Rattle.histories.specs.Readings.{replaces}
+use Rattle.reading_places.specs.Places.{placed}
 use Rattle.ledger.proofs.state.Ledger.is_full_beside.Goals as goal
 
 pub returns : goal.returns
 returns c =
-    ap (λ n. leb n c.count_held.result) c.len.ensures
-    ∙ ap (leb (vec_len c.args.self.now.places)) (c.count_held.ensures.value (λ old. not (replaces c.args.reading.now old)) (λ r b k. search (rules, tests)))
+    let places = c.args.self.now.places in
+    rw c.as_slice.ensures.value at (c.all_passing.ensures (λ old. not (replaces c.args.reading.now old)) (λ r b k. search (rules, tests)))
+    ∙ ap (λ n. leb n (count_by (placed (λ old. not (replaces c.args.reading.now old))) (vec_items places))) (sym places.ok.0)
