@@ -95,6 +95,22 @@ writes_none f c bytes text run = (
   Appends-nil c,
 )
 
+-- one byte was taken: a line feed, which ends the line, or any other
+pub line_feed_taken : (b : ℕ) (old pushed new after_it : Feed) (before after then : Option (List ℕ)) → b ≡ 10 → after_it ≡ new → then ≡ after → pushed.intake ≡ old.intake → pushed.begun ≡ kept (old.begun ++ b ∷ [])
+    → Ends pushed new before after → Writes (b ∷ []) old after_it before then
+line_feed_taken b old pushed new after_it before after then ten is then_is same begins ends =
+    subst (λ (n : ℕ). Writes (n ∷ []) old after_it before then) (sym ten)
+    (subst (λ (f : Feed). Writes (10 ∷ []) old f before then) (sym is)
+    (subst (λ (c : Option (List ℕ)). Writes (10 ∷ []) old new before c) (sym then_is)
+    (λ bytes text run. line_ends bytes text old pushed new before after run same (begins ∙ ap (λ (n : ℕ). kept (old.begun ++ n ∷ [])) ten) ends)))
+
+pub other_byte_taken : (b : ℕ) (old pushed after_it : Feed) (before then : Option (List ℕ)) → (b ≡ 10 → ⊥) → after_it ≡ pushed → then ≡ before → pushed.intake ≡ old.intake → pushed.begun ≡ kept (old.begun ++ b ∷ [])
+    → Writes (b ∷ []) old after_it before then
+other_byte_taken b old pushed after_it before then other is then_is same begins =
+    subst (λ (f : Feed). Writes (b ∷ []) old f before then) (sym is)
+    (subst (λ (c : Option (List ℕ)). Writes (b ∷ []) old pushed before c) (sym then_is)
+    (λ bytes text run. line_goes_on bytes text b old pushed before other run same begins))
+
 pub writes_more : (xs ys : List ℕ) (f g h : Feed) (a b c : Option (List ℕ)) → Writes xs f g a b → Writes ys g h b c → Writes (xs ++ ys) f h a c
 writes_more xs ys f g h a b c first then bytes text run =
     let one = first bytes text run in

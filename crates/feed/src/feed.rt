@@ -42,23 +42,15 @@ impl Feed {
         }
     }
 
-    // Takes one more byte. A line feed ends the line.
-    fn push<W: Write>(&mut self, byte: u8, output: &mut W) -> io::Result<()>
-        ensures { OnOk result (Writes (byte ∷ []) self.old self.new (W.contents output.old) (W.contents output.new)) }
-    {
-        self.begun.push(byte);
-        if byte != b'\n' {
-            return Ok(());
-        }
-        self.end_line(output)
-    }
-
-    // Takes the next bytes of the input, and writes the refusals of the lines that end in them.
+    // Takes the next bytes of the input, and writes the refusals of the lines that end in them. A line feed ends a line.
     pub fn take<W: Write>(&mut self, bytes: &[u8], output: &mut W) -> io::Result<()>
         ensures { OnOk result (Writes bytes.now self.old self.new (W.contents output.old) (W.contents output.new)) }
     {
         for byte in bytes {
-            self.push(*byte, output)?;
+            self.begun.push(*byte);
+            if *byte == b'\n' {
+                self.end_line(output)?;
+            }
         }
         Ok(())
     }
