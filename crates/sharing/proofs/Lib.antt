@@ -1,4 +1,5 @@
 pub mod Handing
 pub mod Products
+pub mod Reciprocals
 pub mod Totals
 pub mod Turns

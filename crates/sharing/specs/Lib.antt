@@ -1,5 +1,6 @@
 pub mod Kinds
 pub mod Laws
 pub mod Limits
+pub mod Reciprocals
 pub mod Rows
 pub mod Sharing

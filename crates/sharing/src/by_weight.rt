@@ -5,6 +5,7 @@ ghost use Rattle.sharing.specs.Limits.{largest_product};
 ghost use Rattle.sharing.specs.Rows.{handed};
 ghost use Rattle.sharing.specs.Sharing.{can_share, shares};
 
+use super::divisor::Divisor;
 use super::row::Row;
 use refusals::Refusal;
 
@@ -26,27 +27,28 @@ pub fn share<R: Row>(amount: u64, rows: &mut [R]) -> Result<(), Refusal>
     ensures keeps { Keeps amount (map R.weighs rows.old) (shares amount (map R.weighs rows.old)) }
 {
     let total = total_to_share_over(amount, rows)?;
+    let divisor = Divisor::new(total);
     let mut progress = Progress {
         running: 0,
         fallen: 0,
     };
     for row in rows.iter_mut() {
-        progress = take_share(row, amount, total, progress);
+        progress = take_share(row, amount, divisor, progress);
     }
     Ok(())
 }
 
 // One row takes its share: what falls to the weights with its own, less what has fallen before.
-fn take_share<R: Row>(row: &mut R, amount: u64, total: u64, before: Progress) -> Progress
-    requires some { 0 < total }
+fn take_share<R: Row>(row: &mut R, amount: u64, total: Divisor, before: Progress) -> Progress
+    requires some { 0 < total.by }
     requires fits { amount * min (before.running + R.weighs row.old) (2 ^ 64 - 1) < 2 ^ 64 }
-    requires grows { before.fallen ≤ amount * min (before.running + R.weighs row.old) (2 ^ 64 - 1) / total }
+    requires grows { before.fallen ≤ amount * min (before.running + R.weighs row.old) (2 ^ 64 - 1) / total.by }
     ensures running { result.running ≡ min (before.running + R.weighs row.old) (2 ^ 64 - 1) }
-    ensures fallen { result.fallen ≡ amount * result.running / total }
+    ensures fallen { result.fallen ≡ amount * result.running / total.by }
     ensures taken { row.new ≡ R.taking row.old (result.fallen - before.fallen) }
 {
     let running = before.running.saturating_add(row.weight());
-    let fallen = amount * running / total;
+    let fallen = total.quotient(amount * running);
     row.take(fallen - before.fallen);
     Progress { running, fallen }
 }

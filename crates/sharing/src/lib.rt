@@ -2,6 +2,7 @@
 #![tactic(auto)]
 
 mod by_weight;
+mod divisor;
 mod estimated_point;
 mod kinds;
 mod reading_day;

@@ -1,4 +1,4 @@
-use Rattle.std.proofs.Common.{◌≡◌, true, map, refl, arith}
+use Rattle.std.proofs.Common.{◌≡◌, true, map, refl, ◌∙◌, arith}
 use Rattle.refusals.specs.Answers.{accepted_since}
 use Rattle.sharing.specs.Laws.{shares_keep}
 use Rattle.sharing.specs.Sharing.{can_share}
@@ -14,14 +14,14 @@ loop-row-init g c = taken_none g.R.Row.weighs g.R.Row.taking c.args.amount c.arg
 pub take_share-progress-requires : goal.take_share-progress-requires
 take_share-progress-requires g c =
     let accepted = accepted_since _ _ _ _ c.in_ok-total.ensures in
-    let t = turn c.loop-row.invariant g.met.R.Row.light accepted.0 accepted.1 c.loop-row-test.true c.row-item.result refl in
+    let t = turn c.loop-row.invariant g.met.R.Row.light accepted.0 (c.new-divisor.ensures ∙ accepted.1) c.loop-row-test.true c.row-item.result refl in
     record { some = t.some; fits = omega (arith, t.fits); grows = t.grows }
 
 pub loop-row-preserved : goal.loop-row-preserved
 loop-row-preserved g c =
     let accepted = accepted_since _ _ _ _ c.in_ok-total.ensures in
     let done = c.take_share-progress.ensures in
-    taken_more c.loop-row.invariant g.met.R.Row.light accepted.0 accepted.1
+    taken_more c.loop-row.invariant g.met.R.Row.light accepted.0 (c.new-divisor.ensures ∙ accepted.1)
     c.loop-row-test.true c.row-item.result done.running done.fallen done.taken
 
 pub returns-clause-rows : goal.returns-clause-rows
