@@ -101,9 +101,14 @@ impl Sheet {
     {
         // Half open, for the same reason as in `missing`.
         for (point, row) in (1..self.points + 1).zip(rows) {
-            if !self.is_covered(ledger, point, day) {
-                self.show(point, day, row.figure);
-            }
+            // A covered point is written its own figure: which points are covered is not to be guessed, and a branch would cost more.
+            let shown = self.shown(point, day);
+            let figure = if self.is_covered(ledger, point, day) {
+                shown
+            } else {
+                row.figure
+            };
+            self.show(point, day, figure);
         }
     }
 
