@@ -10,11 +10,17 @@ use Rattle.sheet.proofs.state.Sheet.learn_load.Goals as goal
 pub invariant_of-self : goal.invariant_of-self
 invariant_of-self c =
     let b = c.args.self.now in
-    record { few_days = b.few_days; few_points = b.few_points; long = b.long; loads_within = written_passes load_within b.loads c.args.day c.load-load.result (load_passes c.load-load.result c.load-load.ensures.bound) b.loads_within; weighed_by_loads =
-      map-set (λ (row : ReadingDay). row.weight) b.weighed c.args.day c.weighed_by.result
-      ∙ ap (set (weights_of b.weighed) c.args.day) c.weighed_by.ensures
-      ∙ ap (λ ws. set ws c.args.day (weight_by c.load-load.result)) b.weighed_by_loads
-      ∙ sym (map-set weight_by b.loads c.args.day c.load-load.result); }
+    record {
+      few_days = b.few_days;
+      few_points = b.few_points;
+      long = b.long;
+      loads_within = written_passes load_within b.loads c.args.day c.load-load.result (load_passes c.load-load.result c.load-load.ensures.bound) b.loads_within;
+      weighed_by_loads =
+          map-set (λ (row : ReadingDay). row.weight) b.weighed c.args.day c.weighed_by.result
+          ∙ ap (set (weights_of b.weighed) c.args.day) c.weighed_by.ensures
+          ∙ ap (λ ws. set ws c.args.day (weight_by c.load-load.result)) b.weighed_by_loads
+          ∙ sym (map-set weight_by b.loads c.args.day c.load-load.result);
+    }
 
 pub returns-clause-after : goal.returns-clause-after
 returns-clause-after c = λ s h follows. record { days = refl; points = refl; figures = refl; loads = ap (set c.args.self.now.loads c.args.day) (c.load-load.ensures.law s h follows); covered = refl }
