@@ -22,18 +22,29 @@ pub record Shown (h : History) (n d : ℕ) (fs : List ℕ) (i : ℕ) (old new : 
   pub ahead : (p : ℕ) → 1 ≤ p → p ≤ n → i < p → cell new p d ≡ cell old p d
 
 module _ {h : History} {n d i : ℕ} {fs : List ℕ} {base old new : Sheet} (so_far : Shown h n d fs i base old) where
-  -- the next point is written its own figure where it is covered, else its generated one
-  pub shown_written : {x : ℕ} → old.points ≡ n → i < n → Written (i + 1) d x old new → x ≡ cond (is_some (covering h (i + 1) d)) (cell old (i + 1) d) (get_or fs i 0) → Shown h n d fs (i + 1) base new
-  shown_written {x} many inside w is =
+  -- a covered point keeps its figure
+  pub shown_kept : is_some (covering h (i + 1) d) ≡ true → new ≡ old → Shown h n d fs (i + 1) base new
+  shown_kept covers same = record {
+    done = λ p low high below. ap (λ b. cell b p d) same
+        ∙ ⊎_elim
+        (λ (here : p ≡ i + 1).
+        so_far.ahead p low high (omega arith)
+        ∙ ap (λ t. cond t (cell base p d) (get_or fs (p - 1) 0)) (sym (ap (λ q. is_some (covering h q d)) here ∙ covers)))
+        (λ (other : p ≡ i + 1 → ⊥). so_far.done p low high (omega arith)) (cases_eq p (i + 1));
+    ahead = λ p low high above. ap (λ b. cell b p d) same ∙ so_far.ahead p low high (omega arith);
+  }
+
+  -- any other takes its generated figure
+  pub shown_written : {x : ℕ} → is_some (covering h (i + 1) d) ≡ false → old.points ≡ n → i < n → Written (i + 1) d x old new → x ≡ get_or fs i 0 → Shown h n d fs (i + 1) base new
+  shown_written {x} none many inside w is =
       let all : i + 1 ≤ old.points = omega arith in
       record {
         done = λ p low high below.
             ⊎_elim
             (λ (here : p ≡ i + 1).
             ap (λ q. cell new q d) here ∙ written_here w ∙ is
-            ∙ ap (λ y. cond (is_some (covering h (i + 1) d)) y (get_or fs i 0)) (so_far.ahead (i + 1) (omega arith) (omega arith) (omega arith))
-            ∙ ap (λ k. cond (is_some (covering h (i + 1) d)) (cell base (i + 1) d) (get_or fs k 0)) (omega arith)
-            ∙ ap (λ q. cond (is_some (covering h q d)) (cell base q d) (get_or fs (q - 1) 0)) (sym here))
+            ∙ ap (λ k. get_or fs k 0) (omega arith)
+            ∙ ap (λ t. cond t (cell base p d) (get_or fs (p - 1) 0)) (sym (ap (λ q. is_some (covering h q d)) here ∙ none)))
             (λ (other : p ≡ i + 1 → ⊥).
             written_other w p d (omega arith) all low (omega arith) (λ same _. other same) ∙ so_far.done p low high (omega arith))
             (cases_eq p (i + 1));

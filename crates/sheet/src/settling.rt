@@ -15,7 +15,7 @@ use super::scaling::scale;
 use super::sources::Sources;
 use super::standing::Standing;
 use super::state::Sheet;
-use estimators::Estimator;
+use estimators::{Estimator, POINTS};
 use ledger::Ledger;
 use sharing::EstimatedPoint;
 
@@ -101,14 +101,9 @@ impl Sheet {
     {
         // Half open, for the same reason as in `missing`.
         for (point, row) in (1..self.points + 1).zip(rows) {
-            // A covered point is written its own figure: which points are covered is not to be guessed, and a branch would cost more.
-            let shown = self.shown(point, day);
-            let figure = if self.is_covered(ledger, point, day) {
-                shown
-            } else {
-                row.figure
-            };
-            self.show(point, day, figure);
+            if !self.is_covered(ledger, point, day) {
+                self.show(point, day, row.figure);
+            }
         }
     }
 
@@ -127,23 +122,6 @@ impl Sheet {
         scale(self.loads[day as usize], supplied, rows)
     }
 
-    // Works out the generated figures of a day of the sheet anew, at N points at most, and notes what its estimates come to.
-    fn settle_in_room<E: Estimator, const N: usize>(&mut self, sources: &Sources<'_, E>, day: u32)
-        requires day { HasDay self.old day }
-        requires room { (self.old.points ≤ N) × (N ≤ 256) }
-        ensures stands { OnlyDays day (day + 1) self.old self.new }
-        ensures notes { NotesStand day (day + 1) self.old self.new }
-        ensures law { (s : Setting) (h : History) → Told s h sources.now.ledger.now self.old → EstimatesOn s h day (E.Estimator.meaning sources.now.estimator.now) → day < s.days → ShowsSupplied s h self.old day → Settled s h self.new day }
-    {
-        // An array of fixed size, since a sheet allocates nothing.
-        let mut all = [NOTHING; N];
-        let all = &mut all[..];
-        let rows = &mut all[0..self.points as usize];
-        let note = self.generate(sources, day, rows);
-        self.show_generated(sources.ledger, day, rows);
-        self.note(day, note);
-    }
-
     // Works out the generated figures of a day anew, beside the supplied ones that the sheet shows, and notes what its estimates come to.
     pub(crate) fn settle_day<E: Estimator>(&mut self, sources: &Sources<'_, E>, day: u32)
         ensures stands { OnlyDays day (day + 1) self.old self.new }
@@ -154,12 +132,12 @@ impl Sheet {
         if day >= self.days {
             return;
         }
-        // As for a reading: a small area has no room made for 256 points.
-        if self.points <= 32 {
-            self.settle_in_room::<E, 32>(sources, day);
-        } else {
-            self.settle_in_room::<E, 256>(sources, day);
-        }
+        // An array of the greatest size, since a sheet allocates nothing.
+        let mut all = [NOTHING; POINTS as usize];
+        let rows = &mut all[0..self.points as usize];
+        let note = self.generate(sources, day, rows);
+        self.show_generated(sources.ledger, day, rows);
+        self.note(day, note);
     }
 
     // Whether a day of the sheet shows its figures by what is noted of it, where it shows the supplied ones.

@@ -7,7 +7,7 @@ use Rattle.sheet.specs.declared.state.Sheet.{Sheet}
 use Rattle.sheet.proofs.Keeping.{told_only}
 use Rattle.sheet.proofs.Notes.{note_here, note_settled, noted_only, others_stand}
 use Rattle.sheet.proofs.Stretches.{only_again}
-use Rattle.sheet.proofs.state.Sheet.settle_in_room.Goals as goal
+use Rattle.sheet.proofs.state.Sheet.settle_day.Goals as goal
 
 pub returns : goal.returns
 returns g c =
