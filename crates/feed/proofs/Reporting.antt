@@ -53,7 +53,7 @@ fails_from_first xs x =
     fails_more 0 at_first xs x ∙ ap (λ (n : ℕ). fail_lines 0 at_first xs ++ fail_line (option_map (fail n) (refusal_of (told_by at_first xs) x))) counted
 
 -- a line that ends goes to those that are complete
-pub line_ends : (bytes text : List ℕ) (old pushed new : Feed) (before after : Option (List ℕ)) → Runs bytes text old → pushed.intake ≡ old.intake → pushed.begun ≡ kept (old.begun ++ 10 ∷ [])
+line_ends : (bytes text : List ℕ) (old pushed new : Feed) (before after : Option (List ℕ)) → Runs bytes text old → pushed.intake ≡ old.intake → pushed.begun ≡ kept (old.begun ++ 10 ∷ [])
     → Ends pushed new before after → (added : List ℕ) × Runs (bytes ++ 10 ∷ []) (text ++ added) new × Appends before after added
 line_ends bytes text old pushed new before after run same begins ends =
     let held : pushed.begun ≡ kept (begun bytes ++ 10 ∷ []) = begins ∙ ap (λ (xs : List ℕ). kept (xs ++ 10 ∷ [])) run.begins ∙ kept_more (begun bytes) (10 ∷ []) in
@@ -74,7 +74,7 @@ line_ends bytes text old pushed new before after run same begins ends =
     )
 
 -- any other byte goes to the line that has begun
-pub line_goes_on : (bytes text : List ℕ) (b : ℕ) (old new : Feed) (c : Option (List ℕ)) → (b ≡ 10 → ⊥) → Runs bytes text old → new.intake ≡ old.intake → new.begun ≡ kept (old.begun ++ b ∷ []) → (added : List ℕ) × Runs (bytes ++ b ∷ []) (text ++ added) new × Appends c c added
+line_goes_on : (bytes text : List ℕ) (b : ℕ) (old new : Feed) (c : Option (List ℕ)) → (b ≡ 10 → ⊥) → Runs bytes text old → new.intake ≡ old.intake → new.begun ≡ kept (old.begun ++ b ∷ []) → (added : List ℕ) × Runs (bytes ++ b ∷ []) (text ++ added) new × Appends c c added
 line_goes_on bytes text b old new c other run same begins = (
   [],
   record {

@@ -1,4 +1,4 @@
-ghost use Rattle.std.specs.Prelude.{ℕ, [], ◌∷◌, IfOk, OnOk};
+ghost use Rattle.std.specs.Prelude.{ℕ, [], IfOk, OnOk};
 ghost use Rattle.feed.specs.Report.{day_shown};
 ghost use Rattle.feed.specs.Runs.{Ends, Finishes, Runs, Writes, WritesDays};
 ghost use Rattle.intake.specs.Days.{day_line};

@@ -12,7 +12,7 @@ pub fn replaces(new: &Reading, old: &Reading) -> bool
 }
 
 // Frees a place where a new reading replaces the one in it.
-// In place: written back as a filtered copy, all places were written for each reading.
+// In place: writing back a filtered copy would write every place for each reading.
 fn free_where_replaced(place: &mut Option<Reading>, new: &Reading)
     ensures { place.new ≡ left_by new.now place.old }
 {

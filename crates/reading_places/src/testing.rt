@@ -1,5 +1,6 @@
-ghost use Rattle.std.specs.Prelude.{◌≡◌, Bool, length, count_by, nat_le, nat_lt};
+ghost use Rattle.std.specs.Prelude.{◌≡◌, Bool};
 ghost use Rattle.std.specs.Fn.{FnReturnsAt};
+ghost use Rattle.std.specs.List.{list_all, list_any};
 ghost use Rattle.histories.specs.declared.entry.Reading.{Reading};
 ghost use Rattle.reading_places.specs.Places.{AnswersAs, placed};
 
@@ -16,7 +17,7 @@ fn holds<F: Fn(&Reading) -> bool>(place: &Option<Reading>, test: &F) -> bool
 // Whether some place holds a reading that passes a test.
 pub fn some_passing<F: Fn(&Reading) -> bool>(places: &[Option<Reading>], test: F) -> bool
     requires { F.IsAlwaysCallable test }
-    ensures { (passes : Reading → Bool) → AnswersAs (FnReturnsAt F.Fn test) passes → result ≡ nat_lt 0 (count_by (placed passes) places.now) }
+    ensures { (passes : Reading → Bool) → AnswersAs (FnReturnsAt F.Fn test) passes → result ≡ list_any (placed passes) places.now }
 {
     places.iter().any(|place| holds(place, &test))
 }
@@ -24,7 +25,7 @@ pub fn some_passing<F: Fn(&Reading) -> bool>(places: &[Option<Reading>], test: F
 // Whether every place holds a reading that passes a test.
 pub fn all_passing<F: Fn(&Reading) -> bool>(places: &[Option<Reading>], test: F) -> bool
     requires { F.IsAlwaysCallable test }
-    ensures { (passes : Reading → Bool) → AnswersAs (FnReturnsAt F.Fn test) passes → result ≡ nat_le (length places.now) (count_by (placed passes) places.now) }
+    ensures { (passes : Reading → Bool) → AnswersAs (FnReturnsAt F.Fn test) passes → result ≡ list_all (placed passes) places.now }
 {
     places.iter().all(|place| holds(place, &test))
 }

@@ -1,17 +1,17 @@
 -- Division by a reciprocal. Assumes nothing.
-use Rattle.std.proofs.Common.{◌≡◌, ℕ, ◌+◌, ◌-◌, ◌*◌, ◌/◌, ◌%◌, ◌^◌, ◌<◌, ◌≤◌, Bool, true, false, ◌&&◌, eqb, leb, T, refl, ⊎_elim, mul-le-mul, mul-le-mul_left, mul-le-mul_right, mul_assoc, ap, ◌∙◌, arith}
+use Rattle.std.proofs.Common.{◌≡◌, ℕ, ◌+◌, ◌-◌, ◌*◌, ◌/◌, ◌^◌, ◌<◌, ◌≤◌, Bool, true, false, ◌&&◌, eqb, leb, T, refl, ⊎_elim, mul-le-mul, mul-le-mul_left, mul-le-mul_right, mul_assoc, ap, ◌∙◌, arith}
 use Rattle.std.proofs.Math.Nat.{add-mul, div-add-mod, div-eq_of_lt-le, mod-lt, mul-add, mul-one}
 use Rattle.std.proofs.lemmas.Bool.{and_parts, cases_lt, eqb-true, leb-true, or_cases}
 use Rattle.std.proofs.lemmas.Nat.{div-add-mod'}
-use Rattle.sharing.specs.Reciprocals.{exact}
+use Rattle.sharing.specs.Reciprocals.{serves}
 
 passed : (b : Bool) → T b → b ≡ true
 passed true t = refl
 passed false t = absurd t
 
 -- what a reciprocal that is used is
-pub exact_means : (by r : ℕ) → T (exact by r) → 0 < r → (by ≤ 2 ^ 31) × (r ≡ (2 ^ 64 - 1) / by + 1)
-exact_means by r is used =
+pub serves_means : (by r : ℕ) → T (serves by r) → 0 < r → (by ≤ 2 ^ 31) × (r ≡ (2 ^ 64 - 1) / by + 1)
+serves_means by r is used =
     ⊎_elim
     (λ (none : eqb r 0 ≡ true). absurd (omega (arith, eqb-true r 0 none)))
     (λ (some : (leb 2 by && (leb by (2 ^ 31) && eqb r ((2 ^ 64 - 1) / by + 1))) ≡ true).

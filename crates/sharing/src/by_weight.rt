@@ -39,16 +39,16 @@ pub fn share<R: Row>(amount: u64, rows: &mut [R]) -> Result<(), Refusal>
 }
 
 // One row takes its share: what falls to the weights with its own, less what has fallen before.
-fn take_share<R: Row>(row: &mut R, amount: u64, total: Divisor, before: Progress) -> Progress
-    requires some { 0 < total.by }
+fn take_share<R: Row>(row: &mut R, amount: u64, divisor: Divisor, before: Progress) -> Progress
+    requires some { 0 < divisor.by }
     requires fits { amount * min (before.running + R.weighs row.old) (2 ^ 64 - 1) < 2 ^ 64 }
-    requires grows { before.fallen ≤ amount * min (before.running + R.weighs row.old) (2 ^ 64 - 1) / total.by }
+    requires grows { before.fallen ≤ amount * min (before.running + R.weighs row.old) (2 ^ 64 - 1) / divisor.by }
     ensures running { result.running ≡ min (before.running + R.weighs row.old) (2 ^ 64 - 1) }
-    ensures fallen { result.fallen ≡ amount * result.running / total.by }
+    ensures fallen { result.fallen ≡ amount * result.running / divisor.by }
     ensures taken { row.new ≡ R.taking row.old (result.fallen - before.fallen) }
 {
     let running = before.running.saturating_add(row.weight());
-    let fallen = total.quotient(amount * running);
+    let fallen = divisor.quotient(amount * running);
     row.take(fallen - before.fallen);
     Progress { running, fallen }
 }

@@ -1,7 +1,7 @@
-ghost use Rattle.std.specs.Prelude.{◌≡◌, ◌+◌, ◌-◌, ◌/◌, ◌^◌, ◌<◌, T};
-ghost use Rattle.sharing.specs.Reciprocals.{exact};
+ghost use Rattle.std.specs.Prelude.{◌≡◌, ◌/◌, ◌<◌, T};
+ghost use Rattle.sharing.specs.Reciprocals.{serves};
 
-// Below this a reciprocal is exact; it is made for divisors of half as much.
+// Of numbers below this a reciprocal gives the exact quotient; it is made for divisors up to half of it.
 const SMALL: u64 = 1 << 32;
 
 // A divisor of many numbers. Most are divided by one multiplication with its reciprocal, which takes a fraction of a division's time.
@@ -10,7 +10,7 @@ pub(crate) struct Divisor {
     pub by: u64,
     // 2^64 / by, rounded up; 0 where it is not used.
     pub reciprocal: u64,
-    ghost exact: { T (exact by reciprocal) },
+    ghost serving: { T (serves by reciprocal) },
 }
 
 impl Divisor {

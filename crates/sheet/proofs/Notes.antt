@@ -1,5 +1,5 @@
 -- What is noted of a day: that it holds once the day is settled, that it tells when the day is, and when it stands. Assumes nothing.
-use Rattle.std.proofs.Common.{◌≡◌, ℕ, zero, suc, ◌+◌, ◌-◌, ◌^◌, ◌<◌, ◌≤◌, min, Bool, true, false, cond, not, ◌&&◌, eqb, ltb, ◌∷◌, map, get_or, set, length, is_some, Some, None, sum, vec_items, vec_len, Option, unwrap_or, sym, refl, ap, ◌∙◌, subst, ⊎_elim, arith}
+use Rattle.std.proofs.Common.{◌≡◌, ℕ, zero, suc, ◌+◌, ◌-◌, ◌^◌, ◌<◌, ◌≤◌, min, Bool, true, false, cond, not, ◌&&◌, eqb, ltb, ◌∷◌, map, get_or, length, is_some, Some, None, sum, vec_items, vec_len, Option, unwrap_or, sym, refl, ap, ◌∙◌, subst, ⊎_elim, arith}
 use Rattle.std.proofs.lemmas.Bool.{and_from, and_left, and_right, both_ways, cases_Bool, cases_lt, cond-false, cond-true, lt-ltb, le-ltb, ltb-false, ne_eqb}
 use Rattle.std.proofs.lemmas.List.FromFn.{get_or-map-range_with_len}
 use Rattle.std.proofs.lemmas.List.Sums.{get_or-le-sum_by, sum_by-cons}
@@ -24,7 +24,7 @@ use Rattle.sheet.specs.Scaling.{note_of}
 use Rattle.sheet.specs.Showing.{ShowsDay, ShowsSupplied}
 use Rattle.sheet.specs.Sums.{counted_sum}
 use Rattle.sheet.specs.declared.day_note.DayNote.{DayNote}
-use Rattle.sheet.specs.declared.day_note.DayNote.TheVariants.{Unsettled, NothingEstimated, EstimatesShown, NothingLeft}
+use Rattle.sheet.specs.declared.day_note.DayNote.TheVariants.{NothingKnown, NothingEstimated, EstimatesShown, NothingLeft}
 use Rattle.sheet.specs.declared.state.Sheet.{Sheet}
 use Rattle.sheet.proofs.Stretches.{Outside, cell_stands, day_stands, supplied_stands}
 
@@ -42,10 +42,10 @@ module _ (s : Setting) (h : History) (d : ℕ) (stand : exceeded (supplied_sum s
       go None e = ap (λ o. unwrap_or (option_map (share_on s h d) o) (get_or (generated s h d) (p - 1) 0)) e ∙ own
       go (Some r) e = absurd (both_ways (is_some (covering h p d)) none (ap is_some e))
 
-  pub shows_estimates : (b : Sheet) → ShowsDay s h b d → ShowsEstimates s h b d
+  shows_estimates : (b : Sheet) → ShowsDay s h b d → ShowsEstimates s h b d
   shows_estimates b shows p low high none = shows p low high ∙ figure_uncovered p low high none
 
-  pub shows_day : (b : Sheet) → ShowsSupplied s h b d → ShowsEstimates s h b d → ShowsDay s h b d
+  shows_day : (b : Sheet) → ShowsSupplied s h b d → ShowsEstimates s h b d → ShowsDay s h b d
   shows_day b supplied_shown estimates_shown p low high = go (covering h p d) refl
     where
       go : (o : Option Reading) → covering h p d ≡ o → cell b p d ≡ figure s h p d
@@ -84,7 +84,7 @@ note_settled s h b d shows =
     go (exceeded (supplied_sum s h d) (estimates_sum s h d) (load s h d)) (ltb 0 (estimates_sum s h d)) (ltb (supplied_sum s h d) (unwrap_or (load s h d) 0)) refl refl refl
   where
     go : (x y z : Bool) → exceeded (supplied_sum s h d) (estimates_sum s h d) (load s h d) ≡ x → ltb 0 (estimates_sum s h d) ≡ y → ltb (supplied_sum s h d) (unwrap_or (load s h d) 0) ≡ z
-        → NoteHolds s h b d (cond x (cond z Unsettled NothingLeft) (cond y EstimatesShown NothingEstimated))
+        → NoteHolds s h b d (cond x (cond z NothingKnown NothingLeft) (cond y EstimatesShown NothingEstimated))
     go true y true e f g = tt
     go true y false e f g = λ p low high none.
         shows p low high ∙ figure_generated s h d p none ∙ nothing_generated s h d (ltb-false (supplied_sum s h d) (unwrap_or (load s h d) 0) g) e (p - 1)
@@ -197,14 +197,14 @@ module _ {s : Setting} {h new : History} {d : ℕ} (kept : EstimatesKept s h new
     shows_kept shows p low high none = cells p low high none ∙ shows p low high (kept.uncovered p none) ∙ sym (kept.same p none)
 
     note_kept : (n : DayNote) → NoteHolds s h old d n → NoteHolds s new b d n
-    note_kept Unsettled noted = tt
+    note_kept NothingKnown noted = tt
     note_kept NothingEstimated noted =
         (omega (arith, noted.0, sum_lower (λ p. estimate_counted s new p d) (λ p. estimate_counted s h p d) lower 1 s.points), shows_kept noted.1)
     note_kept EstimatesShown noted = shows_kept noted
     note_kept NothingLeft noted = λ p low high none. cells p low high none ∙ noted p low high (kept.uncovered p none)
 
-    pub noted_kept : get_or b.notes d Unsettled ≡ get_or old.notes d Unsettled → Noted s h old d → Noted s new b d
-    noted_kept same noted = subst (NoteHolds s new b d) (sym same) (note_kept (get_or old.notes d Unsettled) noted)
+    pub noted_kept : get_or b.notes d NothingKnown ≡ get_or old.notes d NothingKnown → Noted s h old d → Noted s new b d
+    noted_kept same noted = subst (NoteHolds s new b d) (sym same) (note_kept (get_or old.notes d NothingKnown) noted)
 
 -- a changed load leaves them
 pub load_kept : {s : Setting} {h new : History} {g : ℕ} → LoadMoved s h new g → (d : ℕ) → EstimatesKept s h new d
@@ -247,20 +247,20 @@ noted_only from to w = record {
   after = λ k above. ap (λ fs. get_or (vec_items fs) k 0) w.figures;
 }
 
-pub note_here : {d : ℕ} {note : DayNote} {b new : Sheet} → WithNote d note b new → d < length b.notes → get_or new.notes d Unsettled ≡ note
-note_here {d} {note} {b} w inside = ap (λ ns. get_or ns d Unsettled) w.notes ∙ get_or-set_same b.notes d note Unsettled inside
+pub note_here : {d : ℕ} {note : DayNote} {b new : Sheet} → WithNote d note b new → d < length b.notes → get_or new.notes d NothingKnown ≡ note
+note_here {d} {note} {b} w inside = ap (λ ns. get_or ns d NothingKnown) w.notes ∙ get_or-set_same b.notes d note NothingKnown inside
 
 module _ {d : ℕ} {note : DayNote} (old b new : Sheet) (same : b.notes ≡ old.notes) (w : WithNote d note b new) where
-  note_elsewhere : (k : ℕ) → (k ≡ d → ⊥) → get_or new.notes k Unsettled ≡ get_or old.notes k Unsettled
-  note_elsewhere k other = ap (λ ns. get_or ns k Unsettled) w.notes ∙ get_or-set_other b.notes d k note Unsettled other ∙ ap (λ ns. get_or ns k Unsettled) same
+  note_elsewhere : (k : ℕ) → (k ≡ d → ⊥) → get_or new.notes k NothingKnown ≡ get_or old.notes k NothingKnown
+  note_elsewhere k other = ap (λ ns. get_or ns k NothingKnown) w.notes ∙ get_or-set_other b.notes d k note NothingKnown other ∙ ap (λ ns. get_or ns k NothingKnown) same
 
   pub others_stand : NotesStand d (d + 1) old new
   others_stand = record { before = λ k less. note_elsewhere k (λ e. omega arith); after = λ k past. note_elsewhere k (λ e. omega arith) }
 
 pub notes_again : {from to : ℕ} {old b new : Sheet} → b.notes ≡ old.notes → NotesStand from to b new → NotesStand from to old new
 notes_again same stand = record {
-  before = λ k less. stand.before k less ∙ ap (λ ns. get_or ns k Unsettled) same;
-  after = λ k past. stand.after k past ∙ ap (λ ns. get_or ns k Unsettled) same;
+  before = λ k less. stand.before k less ∙ ap (λ ns. get_or ns k NothingKnown) same;
+  after = λ k past. stand.after k past ∙ ap (λ ns. get_or ns k NothingKnown) same;
 }
 
 pub notes_join : {a b c : ℕ} {x y z : Sheet} → a ≤ b → b ≤ c → NotesStand a b x y → NotesStand b c y z → NotesStand a c x z
@@ -269,7 +269,7 @@ notes_join ab bc first second = record {
   after = λ k past. second.after k past ∙ first.after k (omega arith);
 }
 
-pub note_outside : {from to : ℕ} {old new : Sheet} → NotesStand from to old new → (d : ℕ) → Outside from to d → get_or new.notes d Unsettled ≡ get_or old.notes d Unsettled
+pub note_outside : {from to : ℕ} {old new : Sheet} → NotesStand from to old new → (d : ℕ) → Outside from to d → get_or new.notes d NothingKnown ≡ get_or old.notes d NothingKnown
 note_outside stand d outside = ⊎_elim (λ less. stand.before d less) (λ past. stand.after d past) outside
 
 -- a day outside those that change stays ready, or settled

@@ -1,5 +1,5 @@
 -- A sheet that opens shows nothing. Assumes nothing.
-use Rattle.std.proofs.Common.{◌≡◌, ℕ, zero, suc, ◌+◌, ◌-◌, ◌*◌, ◌≤◌, List, [], ◌++◌, map, length, get_or, take, drop, replicate, None, vec_items, Option, sym, refl, ap, ◌∙◌, subst}
+use Rattle.std.proofs.Common.{◌≡◌, ℕ, zero, suc, ◌+◌, ◌-◌, ◌*◌, ◌≤◌, List, [], ◌++◌, map, length, get_or, take, drop, replicate, None, vec_items, sym, refl, ap, ◌∙◌, subst}
 use Rattle.figure_laws.proofs.Lawfully.{figure_before}
 use Rattle.histories.specs.History.{History, Setting}
 use Rattle.ledger.proofs.Opened.{cleared_read, cleared_rest, zero_of}
@@ -7,7 +7,7 @@ use Rattle.sheet_laws.proofs.CoveredTo.{covered_at_opening}
 use Rattle.sheet_laws.proofs.Rows.{cell_before}
 use Rattle.sheet.specs.Noted.{NoteHolds, Noted}
 use Rattle.sheet.specs.Told.{Stands}
-use Rattle.sheet.specs.declared.day_note.DayNote.TheVariants.{Unsettled}
+use Rattle.sheet.specs.declared.day_note.DayNote.TheVariants.{NothingKnown}
 use Rattle.sheet.specs.declared.state.Sheet.{Sheet}
 
 pub read_of_one : {X : Type 0} (x : X) (n k : ℕ) → get_or (replicate n x) k x ≡ x
@@ -16,13 +16,13 @@ read_of_one x (suc n) zero = refl
 read_of_one x (suc n) (suc k) = read_of_one x n k
 
 -- a sheet that knows nothing of any day notes nothing wrong
-pub nothing_noted : (s : Setting) (h : History) (b : Sheet) (d : ℕ) → get_or b.notes d Unsettled ≡ Unsettled → Noted s h b d
+pub nothing_noted : (s : Setting) (h : History) (b : Sheet) (d : ℕ) → get_or b.notes d NothingKnown ≡ NothingKnown → Noted s h b d
 nothing_noted s h b d none = subst (NoteHolds s h b d) (sym none) tt
 
 -- a sheet of cleared figures stands as the empty history leaves it
 pub stands_open : (s : Setting) (rest : List ℕ) (b : Sheet) (xs : List ℕ) → b.days ≡ s.days → b.points ≡ s.points → s.days * s.points ≤ length xs
     → vec_items b.figures ≡ map zero_of (take (s.days * s.points) xs) ++ drop (s.days * s.points) xs
-    → b.loads ≡ replicate 400 None → b.notes ≡ replicate 400 Unsettled → drop (s.days * s.points) xs ≡ rest → Stands s rest [] b
+    → b.loads ≡ replicate 400 None → b.notes ≡ replicate 400 NothingKnown → drop (s.days * s.points) xs ≡ rest → Stands s rest [] b
 stands_open s rest b xs days points long cleared loads notes beyond = record {
   days = days;
   points = points;
@@ -32,6 +32,6 @@ stands_open s rest b xs days points long cleared loads notes beyond = record {
       ap (λ n. get_or (vec_items b.figures) (d * n + (p - 1)) 0) points
       ∙ cleared_read (s.days * s.points) xs (vec_items b.figures) long cleared (d * s.points + (p - 1)) (cell_before s.points p d s.days low high within)
       ∙ sym (figure_before s [] p d tt low refl);
-  noted = λ d within. nothing_noted s [] b d (ap (λ n. get_or n d Unsettled) notes ∙ read_of_one Unsettled 400 d);
+  noted = λ d within. nothing_noted s [] b d (ap (λ n. get_or n d NothingKnown) notes ∙ read_of_one NothingKnown 400 d);
   beyond = cleared_rest (s.days * s.points) xs (vec_items b.figures) long cleared ∙ beyond;
 }

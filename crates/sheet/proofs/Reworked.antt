@@ -30,12 +30,17 @@ use Rattle.sheet.specs.Noted.{Noted, NotesStand, Ready, Settled}
 use Rattle.sheet.specs.Shares.{SharedOver, SharesShown, lies_in}
 use Rattle.sheet.specs.Showing.{ShowsDay, ShowsSupplied}
 use Rattle.sheet.specs.Told.{Stands, Told}
-use Rattle.sheet.specs.declared.day_note.DayNote.TheVariants.{Unsettled}
+use Rattle.sheet.specs.declared.day_note.DayNote.TheVariants.{NothingKnown}
 use Rattle.sheet.specs.declared.state.Sheet.{Sheet}
 use Rattle.sheet.proofs.Keeping.{told_only}
 use Rattle.sheet.proofs.Notes.{count_kept, load_kept, note_outside, noted_kept, reading_kept}
 use Rattle.sheet.proofs.Opened.{nothing_noted, read_of_one}
 use Rattle.sheet.proofs.Stretches.{Outside, beyond_stands, cell_stands, only_again}
+
+-- what holds of the days from one day up to another, and of all others, holds of each
+by_days : {X : Type 0} (from to d : ℕ) → (from ≤ d → d < to → X) → (Outside from to d → X) → X
+by_days from to d inside outside =
+    ⊎_elim (λ early. outside (inl early)) (λ late. ⊎_elim (λ before. inside late before) (λ after. outside (inr after)) (cases_lt d to)) (cases_lt d from)
 
 -- the days from one day up to another are shown anew, and all others stand under the longer history
 pub record Reworking (s : Setting) (h new : History) (from to : ℕ) (old b : Sheet) : Type 0 where
@@ -55,9 +60,7 @@ reworked {s} {rest} {h} {new} {from} {to} {old} {b} r stood = record {
   points = r.points ∙ stood.points;
   loads = r.loads;
   covered = r.covered;
-  shown = λ d within.
-      ⊎_elim (λ early. kept d within (inl early))
-      (λ late. ⊎_elim (λ before. r.inside d late before) (λ after. kept d within (inr after)) (cases_lt d to)) (cases_lt d from);
+  shown = λ d within. by_days from to d (r.inside d) (kept d within);
   noted = r.notes;
   beyond = subst (λ n. drop n (vec_items b.figures) ≡ rest) places (r.beyond ∙ subst (λ n. drop n (vec_items old.figures) ≡ rest) (sym places) stood.beyond);
 }
@@ -67,11 +70,6 @@ reworked {s} {rest} {h} {new} {from} {to} {old} {b} r stood = record {
 
     kept : (d : ℕ) → d < s.days → Outside from to d → ShowsDay s new b d
     kept d within away p low high = r.elsewhere p d low high away ∙ stood.shown d within p low high ∙ sym ((r.outside d within away).figures_stand p)
-
--- what holds of the days from one day up to another, and of all others, holds of each
-by_days : {X : Type 0} (from to d : ℕ) → (from ≤ d → d < to → X) → (Outside from to d → X) → X
-by_days from to d inside outside =
-    ⊎_elim (λ early. outside (inl early)) (λ late. ⊎_elim (λ before. inside late before) (λ after. outside (inr after)) (cases_lt d to)) (cases_lt d from)
 
 -- what is told of a day's supplied figure by its reading
 supplied_by : (s : Setting) (h : History) (p d x : ℕ) (r : Reading) → covering h p d ≡ Some r → supplied s h p d ≡ Some x → share_on s h d r ≡ x
@@ -138,7 +136,7 @@ module _ (s : Setting) (h new : History) (g : ℕ) (l : Ledger) (moved : LoadMov
   module _ (from to : ℕ) (b2 : Sheet) (low : from ≤ g) (high : g < to) (last : to ≤ b1.days) (shared_only : OnlyDays from to b1 b2) (shared : SharedOver s new g from to b1 b2)
       (notes : b2.notes ≡ b0.notes) where
     -- every supplied figure is shown by the latest loads
-    pub supplied_after_load : (d : ℕ) → ShowsSupplied s new b2 d
+    supplied_after_load : (d : ℕ) → ShowsSupplied s new b2 d
     supplied_after_load d p x p_low p_high is = go (covering new p d) refl
       where
         go : (o : Option Reading) → covering new p d ≡ o → cell b2 p d ≡ x
@@ -158,7 +156,7 @@ module _ (s : Setting) (h new : History) (g : ℕ) (l : Ledger) (moved : LoadMov
     ready_after_load d within = (
       supplied_after_load d,
       noted_kept (load_kept moved d) b0 b2 (λ p p_low p_high none. shared.free p d p_low p_high none ∙ cell_same learned_same p d)
-          (ap (λ ns. get_or ns d Unsettled) notes) (stood.noted d within),
+          (ap (λ ns. get_or ns d NothingKnown) notes) (stood.noted d within),
     )
 
     away : (d : ℕ) → Outside from to d → d ≡ g → ⊥
@@ -183,7 +181,7 @@ module _ (s : Setting) (h new : History) (g : ℕ) (l : Ledger) (moved : LoadMov
           notes = λ d within. by_days from to d (λ first last. (settled d first last).1)
               (λ outside.
               noted_kept (load_kept moved d) b0 b3 (λ p p_low p_high none. elsewhere_same learned_same told_load.points only p d p_low p_high outside)
-              (note_outside notes_stand d outside ∙ ap (λ ns. get_or ns d Unsettled) notes) (stood.noted d within));
+              (note_outside notes_stand d outside ∙ ap (λ ns. get_or ns d NothingKnown) notes) (stood.noted d within));
           outside = λ d within outside. moved.apart d (away d outside) (apart d outside);
           elsewhere = elsewhere_same learned_same told_load.points only;
           days = only.days ∙ learned.days;
@@ -210,7 +208,7 @@ module _ (s : Setting) (h : History) (r : Reading) (l : Ledger) (lawful : Lawful
   }
 
   -- its days show its shares, and all other supplied figures stand
-  pub supplied_after_reading : (b2 : Sheet) → SharesShown s (ReadingTaken r ∷ h) r b1 b2 → (d : ℕ) → ShowsSupplied s (ReadingTaken r ∷ h) b2 d
+  supplied_after_reading : (b2 : Sheet) → SharesShown s (ReadingTaken r ∷ h) r b1 b2 → (d : ℕ) → ShowsSupplied s (ReadingTaken r ∷ h) b2 d
   supplied_after_reading b2 shares d p x low high is =
       ⊎_elim
       (λ (here : covers r p d ≡ true).
@@ -230,7 +228,7 @@ module _ (s : Setting) (h : History) (r : Reading) (l : Ledger) (lawful : Lawful
   pub ready_after_reading : (b2 : Sheet) → SharesShown s (ReadingTaken r ∷ h) r b1 b2 → b2.notes ≡ b0.notes → (d : ℕ) → d < s.days → Ready s (ReadingTaken r ∷ h) b2 d
   ready_after_reading b2 shares notes d within = (
     supplied_after_reading b2 shares d,
-    noted_kept (reading_kept s h r d) b0 b2 stands (ap (λ ns. get_or ns d Unsettled) notes) (stood.noted d within),
+    noted_kept (reading_kept s h r d) b0 b2 stands (ap (λ ns. get_or ns d NothingKnown) notes) (stood.noted d within),
   )
     where
       stands : (p : ℕ) → 1 ≤ p → p ≤ s.points → is_some (covering (ReadingTaken r ∷ h) p d) ≡ false → cell b2 p d ≡ cell b0 p d
@@ -282,17 +280,17 @@ module _ (s : Setting) (h : History) (q : ℕ) (e : Enrolment) (l : Ledger) (law
   }
 
   -- supplied figures stand
-  pub supplied_after_enrolment : (d : ℕ) → d < s.days → ShowsSupplied s (Enrolled q e ∷ h) b1 d
+  supplied_after_enrolment : (d : ℕ) → d < s.days → ShowsSupplied s (Enrolled q e ∷ h) b1 d
   supplied_after_enrolment d within p x low high is = cell_same start_same p d ∙ supplied_shown_before s h b0 stood d within p x low high is
 
-  module _ (notes : b1.notes ≡ replicate 400 Unsettled) where
-    none_noted : (d : ℕ) → get_or b1.notes d Unsettled ≡ Unsettled
-    none_noted d = ap (λ ns. get_or ns d Unsettled) notes ∙ read_of_one Unsettled 400 d
+  module _ (notes : b1.notes ≡ replicate 400 NothingKnown) where
+    none_noted : (d : ℕ) → get_or b1.notes d NothingKnown ≡ NothingKnown
+    none_noted d = ap (λ ns. get_or ns d NothingKnown) notes ∙ read_of_one NothingKnown 400 d
 
     pub ready_after_enrolment : (d : ℕ) → d < s.days → Ready s (Enrolled q e ∷ h) b1 d
     ready_after_enrolment d within = (supplied_after_enrolment d within, nothing_noted s (Enrolled q e ∷ h) b1 d (none_noted d))
 
-  pub enrolment_reworked : (b3 : Sheet) → OnlyDays e.start b1.days b1 b3 → NotesStand e.start b1.days b1 b3 → b1.notes ≡ replicate 400 Unsettled
+  pub enrolment_reworked : (b3 : Sheet) → OnlyDays e.start b1.days b1 b3 → NotesStand e.start b1.days b1 b3 → b1.notes ≡ replicate 400 NothingKnown
       → ((d : ℕ) → e.start ≤ d → d < b1.days → Settled s (Enrolled q e ∷ h) b3 d) → Stands s rest (Enrolled q e ∷ h) b3
   enrolment_reworked b3 only notes_stand notes settled =
       let told = told_only only told_enrolment in

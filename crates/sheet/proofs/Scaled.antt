@@ -15,7 +15,7 @@ use Rattle.sharing.specs.Sharing.{can_share, shares}
 use Rattle.sharing.specs.declared.estimated_point.EstimatedPoint.{EstimatedPoint}
 use Rattle.sheet_laws.proofs.Rows.{handed_figures}
 use Rattle.sheet.specs.Limits.{load_within}
-use Rattle.sheet.specs.declared.day_note.DayNote.TheVariants.{Unsettled, NothingLeft}
+use Rattle.sheet.specs.declared.day_note.DayNote.TheVariants.{NothingKnown, NothingLeft}
 use Rattle.sheet.specs.Scaling.{estimates_of, figures_of, note_of, scaled}
 
 -- a load can be shared over the estimates of a day's points, where some estimate is above 0
@@ -54,9 +54,9 @@ scaled_by load supplied es figures exceeds is = is ∙ ap (λ t. cond t (shares 
 
 -- and what is noted of it then
 pub noted_scaled : (load : Option ℕ) (supplied n left : ℕ) (es : List ℕ) → load ≡ Some n → left ≡ n - supplied → n < supplied + sum es → 0 < sum es
-    → cond (ltb 0 left) Unsettled NothingLeft ≡ note_of load supplied es
+    → cond (ltb 0 left) NothingKnown NothingLeft ≡ note_of load supplied es
 noted_scaled load supplied n left es is left_is above some =
-    ap (λ t. cond t Unsettled NothingLeft) (test ∙ ap (λ o. ltb supplied (unwrap_or o 0)) (sym is))
+    ap (λ t. cond t NothingKnown NothingLeft) (test ∙ ap (λ o. ltb supplied (unwrap_or o 0)) (sym is))
     ∙ sym (cond-true (exceeded supplied (sum es) load) _ _ (ap (exceeded supplied (sum es)) is ∙ exceeds supplied (sum es) n above some))
   where
     test : ltb 0 left ≡ ltb supplied n

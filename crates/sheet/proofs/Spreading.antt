@@ -120,7 +120,7 @@ row_shares row taken a k i inside within =
 
 -- the days of a reading weigh what the rules say
 module _ {s : Setting} {h : History} {l : Ledger} {b : Sheet} (told : Told s h l b) (many : length b.weighed ≡ 400) (loads_many : length b.loads ≡ 400) where
-  pub days_weigh : (a n : ℕ) → a + n ≤ b.days → weights_of (take n (drop a b.weighed)) ≡ map (weight s h) (range_with_len a n)
+  days_weigh : (a n : ℕ) → a + n ≤ b.days → weights_of (take n (drop a b.weighed)) ≡ map (weight s h) (range_with_len a n)
   days_weigh a n inside =
       ext_get_or 0 (weights_of (take n (drop a b.weighed))) (map (weight s h) (range_with_len a n)) (long ∙ sym (length-map-range_with_len (weight s h) a n)) each
     where

@@ -1,5 +1,5 @@
 -- A loop over consecutive numbers beside a slice, which has yielded xs. Assumes nothing.
-use Rattle.std.proofs.Common.{◌≡◌, ℕ, ◌+◌, ◌-◌, ◌<◌, ◌≤◌, List, [], ◌∷◌, length, get_or, drop, Some, None, Option, Bor, sym, ap, ◌∙◌, subst, inl, inr, ◌⊎◌, suc, arith}
+use Rattle.std.proofs.Common.{◌≡◌, ℕ, ◌+◌, ◌<◌, List, [], ◌∷◌, length, get_or, drop, Some, Option, Bor, sym, ap, ◌∙◌, subst, suc, arith}
 use Rattle.std.proofs.iter.Yields.{fronts, nat_range_steps}
 use Rattle.std.proofs.lemmas.Iterator.{zips}
 use Rattle.std.proofs.lemmas.List.{get_or-drop, length-drop}
@@ -13,25 +13,19 @@ use Rattle.std.specs.declared.ops.Range.{Range}
 module _ {B : Type 0} where
   -- where the numbers and the slice stand after so many turns
   record Stand (n : ℕ) (s t : Zip (Range ℕ) (Iter B)) : Type 0 where
-    pub end : (zip_first t).end ≡ (zip_first s).end
     pub start : (zip_first t).start ≡ (zip_first s).start + n
     pub rest : iter_rest (zip_second t) ≡ drop n (iter_rest (zip_second s))
-    pub few : n ≤ length (iter_rest (zip_second s))
 
   so_far : (xs : List (ℕ × Bor B)) (s t : Zip (Range ℕ) (Iter B)) → Yields (zips nat_range_steps fronts) s xs t → Stand (length xs) s t
   so_far [] s t y = record {
-    end = ap (λ (z : Zip (Range ℕ) (Iter B)). (zip_first z).end) (sym y);
     start = omega (arith, ap (λ (z : Zip (Range ℕ) (Iter B)). (zip_first z).start) y);
     rest = ap (λ (z : Zip (Range ℕ) (Iter B)). iter_rest (zip_second z)) (sym y);
-    few = omega arith;
   }
   so_far (x ∷ xs) s t y =
       let k = so_far xs y.0 t y.2 in
       record {
-        end = k.end ∙ y.1.0.0;
         start = omega (arith, k.start, y.1.0.1.2);
         rest = k.rest ∙ sym (ap (drop (suc (length xs))) y.1.1);
-        few = omega (arith, k.few, ap length y.1.1);
       }
 
   module _ (a b : ℕ) (vs : List B) (xs : List (ℕ × Bor B)) (s t u : Zip (Range ℕ) (Iter B)) (r : Option (ℕ × Bor B)) (first : zip_first s ≡ record { start = a; end = b }) (second : iter_rest (zip_second s) ≡ vs) (y : Yields (zips nat_range_steps fronts) s xs t) where
@@ -48,15 +42,3 @@ module _ {B : Type 0} where
           omega (arith, k.0.1.1, (so_far xs s t y).start, ap (λ (q : Range ℕ). q.start) first),
           λ d. ap (λ l. get_or l 0 d) here ∙ get_or-drop (length xs) vs 0 d ∙ ap (λ n. get_or vs n d) none,
         )
-
-    -- where there is a number for each element, the loop ends after the last of them
-    pub numbered_end : length vs ≤ b - a → r ≡ None → zips nat_range_steps fronts t r u → length xs ≡ length vs
-    numbered_end enough e h = by (subst (λ o. zips nat_range_steps fronts t o u) e h)
-      where
-        by : ((v : Range ℕ) × nat_range_steps (zip_first t) None v) ⊎ ((v : Iter B) × fronts (zip_second t) None v) → length xs ≡ length vs
-        by (inl n) =
-            let k = so_far xs s t y in
-            omega (arith, enough, k.few, ap length second, n.1.1.0, k.start, k.end, ap (λ (q : Range ℕ). q.start) first, ap (λ (q : Range ℕ). q.end) first)
-        by (inr n) =
-            let k = so_far xs s t y in
-            omega (arith, k.few, ap length second, n.1.0, ap length left, length-drop (length xs) vs)

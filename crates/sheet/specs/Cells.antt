@@ -16,7 +16,8 @@ HasCell b p d = HasPoint b p × HasDay b d
 abbrev pub cell : Sheet → ℕ → ℕ → ℕ
 cell b p d = slice_index (vec_items b.figures) (d * b.points + (p - 1))
 
--- at most the figures of the days from one day up to another differ; all else of the sheet stands
+-- of the figures at most those of the days from one day up to another differ, and what is known of loads and coverage stands;
+-- notes are told apart
 pub record OnlyDays (from to : ℕ) (old new : Sheet) : Type 0 where
   pub days : new.days ≡ old.days
   pub points : new.points ≡ old.points

@@ -1,11 +1,11 @@
--- What a sheet notes of its days, so that it settles none again whose figures stand.
+-- What a sheet notes of its days, so that most of those whose figures stand are not settled again.
 use Rattle.std.specs.Prelude.{◌≡◌, ℕ, ◌<◌, ◌≤◌, false, is_some, slice_index_or}
 use Rattle.histories.specs.Figures.{estimate_counted, estimates_sum}
 use Rattle.histories.specs.History.{History, Setting, covering}
 use Rattle.sheet.specs.Cells.{cell}
 use Rattle.sheet.specs.Showing.{ShowsDay, ShowsSupplied}
 use Rattle.sheet.specs.declared.day_note.DayNote.{DayNote}
-use Rattle.sheet.specs.declared.day_note.DayNote.TheVariants.{Unsettled, NothingEstimated, EstimatesShown, NothingLeft}
+use Rattle.sheet.specs.declared.day_note.DayNote.TheVariants.{NothingKnown, NothingEstimated, EstimatesShown, NothingLeft}
 use Rattle.sheet.specs.declared.state.Sheet.{Sheet}
 
 -- each point that no reading covers on a day shows its estimate as it is
@@ -18,21 +18,21 @@ ShowsNothing s h b d = (p : ℕ) → 1 ≤ p → p ≤ s.points → is_some (cov
 
 -- what a note says of a day
 abbrev pub NoteHolds : Setting → History → Sheet → ℕ → DayNote → Type 0
-NoteHolds s h b d Unsettled = Unit {0}
+NoteHolds s h b d NothingKnown = Unit {0}
 NoteHolds s h b d NothingEstimated = (estimates_sum s h d ≡ 0) × ShowsEstimates s h b d
 NoteHolds s h b d EstimatesShown = ShowsEstimates s h b d
 NoteHolds s h b d NothingLeft = ShowsNothing s h b d
 
 -- what a sheet has noted of a day is so
 abbrev pub Noted : Setting → History → Sheet → ℕ → Type 0
-Noted s h b d = NoteHolds s h b d (slice_index_or b.notes d Unsettled)
+Noted s h b d = NoteHolds s h b d (slice_index_or b.notes d NothingKnown)
 
 -- what is noted of the days before one day, and from another on, stands
 pub record NotesStand (from to : ℕ) (old new : Sheet) : Type 0 where
-  pub before : (d : ℕ) → d < from → slice_index_or new.notes d Unsettled ≡ slice_index_or old.notes d Unsettled
-  pub after : (d : ℕ) → to ≤ d → slice_index_or new.notes d Unsettled ≡ slice_index_or old.notes d Unsettled
+  pub before : (d : ℕ) → d < from → slice_index_or new.notes d NothingKnown ≡ slice_index_or old.notes d NothingKnown
+  pub after : (d : ℕ) → to ≤ d → slice_index_or new.notes d NothingKnown ≡ slice_index_or old.notes d NothingKnown
 
--- a day can be settled: its supplied figures are shown, and what is noted of it is so
+-- a day can be settled again by its note: its supplied figures are shown, and what is noted of it is so
 abbrev pub Ready : Setting → History → Sheet → ℕ → Type 0
 Ready s h b d = ShowsSupplied s h b d × Noted s h b d
 

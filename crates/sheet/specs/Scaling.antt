@@ -1,11 +1,11 @@
--- The estimated points of a day, and the figures that they are scaled to.
+-- The estimated points of a day, the figures that they are scaled to, and what is noted of the day then.
 use Rattle.std.specs.Prelude.{ℕ, ◌-◌, cond, List, map, sum, Option, nat_lt}
 use Rattle.std.specs.Option.{unwrap_or}
 use Rattle.histories.specs.Figures.{exceeded}
 use Rattle.sharing.specs.Sharing.{shares}
 use Rattle.sharing.specs.declared.estimated_point.EstimatedPoint.{EstimatedPoint}
 use Rattle.sheet.specs.declared.day_note.DayNote.{DayNote}
-use Rattle.sheet.specs.declared.day_note.DayNote.TheVariants.{Unsettled, NothingEstimated, EstimatesShown, NothingLeft}
+use Rattle.sheet.specs.declared.day_note.DayNote.TheVariants.{NothingKnown, NothingEstimated, EstimatesShown, NothingLeft}
 
 -- the estimates of some rows, and their figures
 abbrev pub estimates_of : List EstimatedPoint → List ℕ
@@ -18,9 +18,9 @@ figures_of rows = map (λ row. row.figure) rows
 abbrev pub scaled : Option ℕ → ℕ → List ℕ → List ℕ
 scaled load supplied es = cond (exceeded supplied (sum es) load) (shares (unwrap_or load 0 - supplied) es) es
 
--- what is noted of a day whose figures are these
+-- what is noted of a day with this load, this supplied sum and these estimates, once it is settled
 abbrev pub note_of : Option ℕ → ℕ → List ℕ → DayNote
 note_of load supplied es =
     cond (exceeded supplied (sum es) load)
-    (cond (nat_lt supplied (unwrap_or load 0)) Unsettled NothingLeft)
+    (cond (nat_lt supplied (unwrap_or load 0)) NothingKnown NothingLeft)
     (cond (nat_lt 0 (sum es)) EstimatesShown NothingEstimated)

@@ -1,8 +1,8 @@
 -- What a sheet knows of a history, and what it shows of it.
-use Rattle.std.specs.Prelude.{◌≡◌, ℕ, ◌+◌, ◌*◌, ◌<◌, ◌≤◌, cond, List, drop, is_some, Some, None, vec_items, slice_index_or}
+use Rattle.std.specs.Prelude.{◌≡◌, ℕ, ◌+◌, ◌*◌, ◌<◌, cond, List, drop, is_some, None, vec_items, slice_index_or}
 use Rattle.estimators.specs.Meaning.{Meaning}
 use Rattle.histories.specs.Calls.{Lawful}
-use Rattle.histories.specs.Figures.{active, estimate, figure, load, supplied}
+use Rattle.histories.specs.Figures.{active, estimate, load}
 use Rattle.histories.specs.History.{History, Setting, covering}
 use Rattle.ledger.specs.Told.{Follows}
 use Rattle.sheet_laws.specs.CoveredTo.{CoveredTo}

@@ -11,6 +11,6 @@ weights_of rows = map (λ row. row.weight) rows
 abbrev pub shares_of : List ReadingDay → List ℕ
 shares_of rows = map (λ row. row.share) rows
 
--- a day weighs what its load does, and one without a load what no load does
+-- a day weighs what its load does, and one without a load what a load of 0 does
 abbrev pub weight_by : Option ℕ → ℕ
 weight_by load = weight (unwrap_or load 0)

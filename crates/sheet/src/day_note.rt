@@ -1,12 +1,12 @@
-// What a sheet notes of a day, so that it settles no day again whose figures stand.
+// What a sheet notes of a day, so that most days whose figures stand are not settled again.
 #[derive(Clone, Copy, PartialEq, Eq, Debug)]
-pub enum DayNote {
-    // Its generated figures have to be worked out.
-    Unsettled,
-    // Its estimates come to nothing.
+pub(crate) enum DayNote {
+    // Nothing: its estimates are scaled, or it has not been settled yet.
+    NothingKnown,
+    // Its estimates come to 0, and its points that no reading covers show 0.
     NothingEstimated,
-    // It shows its estimates as they are.
+    // Its points that no reading covers show their estimates as they are.
     EstimatesShown,
-    // Its load leaves nothing beside supplied energy, and its generated figures are 0.
+    // Its points that no reading covers show 0, since its load left nothing beside supplied energy.
     NothingLeft,
 }

@@ -10,7 +10,7 @@ use super::state::Sheet;
 use estimators::Estimator;
 
 impl Sheet {
-    // Settles the days of a span, whose estimates stand where something is noted of them.
+    // Settles the days of a span, each unless its note tells that it stands.
     pub(crate) fn settle_days<E: Estimator>(&mut self, sources: &Sources<'_, E>, span: Span)
         requires { (span.from ≤ span.to) × (span.to ≤ self.old.days) }
         ensures stands { OnlyDays span.from span.to self.old self.new }

@@ -5,7 +5,7 @@ ghost use Rattle.ledger.specs.Told.{Follows};
 ghost use Rattle.sheet.specs.Cells.{HasDay, HasPoint};
 ghost use Rattle.sheet.specs.Learning.{WithCover, WithLoad, WithNote};
 ghost use Rattle.sheet.specs.Weights.{weight_by};
-ghost use Rattle.sheet.specs.declared.day_note.DayNote.TheVariants.{Unsettled};
+ghost use Rattle.sheet.specs.declared.day_note.DayNote.TheVariants.{NothingKnown};
 
 use super::day_note::DayNote;
 use super::state::Sheet;
@@ -53,11 +53,11 @@ impl Sheet {
     pub(crate) fn start_at(&mut self, point: u32, day: u32)
         requires { HasPoint self.old point }
         ensures within { point - 1 < length self.old.covered_to }
-        ensures notes { self.new.notes ≡ replicate 400 Unsettled }
+        ensures notes { self.new.notes ≡ replicate 400 NothingKnown }
         ensures after { WithCover point day self.old self.new }
     {
         self.cover_to(point, day);
-        self.notes = [DayNote::Unsettled; DAYS as usize];
+        self.notes = [DayNote::NothingKnown; DAYS as usize];
     }
 
     // The days of a point are covered up to this day at least.

@@ -13,7 +13,8 @@ use estimators::Estimator;
 use histories::{Enrolment, Reading};
 
 impl Sheet {
-    // Follows a new gate day or interval energy: the readings over its day are shared anew, and each day that they join is settled once.
+    // Follows a new gate day or interval energy: the readings over its day are shared anew, and each day that they
+    // join is settled once, unless its note tells that it stands.
     pub fn reload<E: Estimator>(&mut self, sources: &Sources<'_, E>, day: u32)
         ensures { (s : Setting) (rest : List ℕ) (h new : History) → LoadMoved s h new day → Follows s new sources.now.ledger.now → Estimates s new (E.Estimator.meaning sources.now.estimator.now) → day < s.days → Stands s rest h self.old → Stands s rest new self.new }
     {

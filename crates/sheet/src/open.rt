@@ -9,7 +9,7 @@ use estimators::{DAYS, POINTS};
 use ledger::clear_front;
 use sharing::ReadingDay;
 
-// The weight of a day without a load.
+// A day without a load, by its weight.
 const UNLOADED: ReadingDay = ReadingDay {
     weight: 1,
     share: 0,
@@ -43,7 +43,7 @@ impl Sheet {
             loads: [None; DAYS as usize],
             weighed: [UNLOADED; DAYS as usize],
             covered_to: [0; POINTS as usize],
-            notes: [DayNote::Unsettled; DAYS as usize],
+            notes: [DayNote::NothingKnown; DAYS as usize],
         })
     }
 

@@ -1,6 +1,6 @@
 ghost use Rattle.std.specs.Prelude.{◌≡◌, ◌-◌, ◌≤◌, length, IfSome, if◌then◌else◌, sum, nat_lt};
 ghost use Rattle.sheet.specs.Scaling.{estimates_of, figures_of, note_of, scaled};
-ghost use Rattle.sheet.specs.declared.day_note.DayNote.TheVariants.{Unsettled, NothingLeft};
+ghost use Rattle.sheet.specs.declared.day_note.DayNote.TheVariants.{NothingKnown, NothingLeft};
 
 use super::day_note::DayNote;
 use sharing::{EstimatedPoint, share};
@@ -14,11 +14,11 @@ fn total_of(rows: &[EstimatedPoint]) -> u64
 }
 
 // What can be noted of a day whose estimates are scaled to so much.
-fn scaled_to(left: u64) -> DayNote
-    ensures { result ≡ (if nat_lt 0 left then Unsettled else NothingLeft) }
+fn note_of_scaled(left: u64) -> DayNote
+    ensures { result ≡ (if nat_lt 0 left then NothingKnown else NothingLeft) }
 {
     if left > 0 {
-        DayNote::Unsettled
+        DayNote::NothingKnown
     } else {
         DayNote::NothingLeft
     }
@@ -43,5 +43,5 @@ pub(crate) fn scale(load: Option<u64>, supplied: u64, rows: &mut [EstimatedPoint
     }
     let left = load.saturating_sub(supplied);
     share(left, rows).unwrap();
-    scaled_to(left)
+    note_of_scaled(left)
 }

@@ -2,8 +2,8 @@ ghost use Rattle.std.specs.Prelude.{◌≡◌, ℕ, ◌+◌, ◌-◌, ◌^◌, �
 ghost use Rattle.std.specs.Option.{unwrap_or};
 ghost use Rattle.histories.specs.Figures as law;
 ghost use Rattle.histories.specs.History.{History, Setting, covering};
-ghost use Rattle.sheet.specs.Cells.{HasCell, HasDay, OnlyDays, cell};
 ghost use Rattle.ledger.specs.declared.state.Ledger.{Ledger};
+ghost use Rattle.sheet.specs.Cells.{HasCell, HasDay, OnlyDays, cell};
 ghost use Rattle.sheet.specs.Noted.{NotesStand, Ready, Settled};
 ghost use Rattle.sheet.specs.Scaling.{estimates_of, figures_of, note_of};
 ghost use Rattle.sheet.specs.Showing.{ShowsDay, ShowsSupplied};
@@ -53,24 +53,20 @@ impl Sheet {
         ensures supplied { (s : Setting) (h : History) → Told s h sources.now.ledger.now self.now → result.supplied ≡ (if is_some (covering h point day) then cell self.now point day else 0) }
         ensures estimate { (s : Setting) (h : History) → Told s h sources.now.ledger.now self.now → EstimatesOn s h day (E.Estimator.meaning sources.now.estimator.now) → unwrap_or result.estimate 0 ≡ law.estimate_counted s h point day }
     {
+        let mut part = PointPart {
+            supplied: 0,
+            estimate: None,
+        };
         match self.standing(sources.ledger, point, day) {
-            Standing::Covered => PointPart {
-                supplied: self.shown(point, day),
-                estimate: None,
-            },
-            Standing::Estimated => PointPart {
-                supplied: 0,
-                estimate: sources.estimate_of(point, day),
-            },
-            Standing::Absent => PointPart {
-                supplied: 0,
-                estimate: None,
-            },
+            Standing::Covered => part.supplied = self.shown(point, day),
+            Standing::Estimated => part.estimate = sources.estimate_of(point, day),
+            Standing::Absent => {}
         }
+        part
     }
 
-    // The estimates of a day's points in number order, not scaled yet, and what its supplied figures come to, in one pass:
-    // or the largest u64 where it is more, and no book comes near it.
+    // The estimates of a day's points in number order, not scaled yet, and what its supplied figures come to, capped as in
+    // `sum_of`: in one pass.
     fn gather<E: Estimator>(
         &self,
         sources: &Sources<'_, E>,
@@ -122,7 +118,7 @@ impl Sheet {
         scale(self.loads[day as usize], supplied, rows)
     }
 
-    // Works out the generated figures of a day anew, beside the supplied ones that the sheet shows, and notes what its estimates come to.
+    // Works out the generated figures of a day anew, beside the supplied ones that the sheet shows, and notes what is known of it then.
     pub(crate) fn settle_day<E: Estimator>(&mut self, sources: &Sources<'_, E>, day: u32)
         ensures stands { OnlyDays day (day + 1) self.old self.new }
         ensures notes { NotesStand day (day + 1) self.old self.new }
@@ -141,12 +137,12 @@ impl Sheet {
     }
 
     // Whether a day of the sheet shows its figures by what is noted of it, where it shows the supplied ones.
-    fn is_settled(&self, day: u32) -> bool
+    fn stands_by_its_note(&self, day: u32) -> bool
         requires { HasDay self.now day }
         ensures { (s : Setting) (h : History) (l : Ledger) → Told s h l self.now → Ready s h self.now day → result ≡ true → ShowsDay s h self.now day }
     {
         match self.notes[day as usize] {
-            DayNote::Unsettled => false,
+            DayNote::NothingKnown => false,
             DayNote::NothingEstimated => true,
             DayNote::EstimatesShown => match self.loads[day as usize] {
                 Some(load) => self.sum_of(day, |_| true) <= load,
@@ -159,14 +155,14 @@ impl Sheet {
         }
     }
 
-    // Settles a day whose estimates stand: nothing is worked out where what is noted of it tells that its figures stand too.
+    // Settles a day unless what is noted of it tells that its figures stand.
     pub(crate) fn resettle_day<E: Estimator>(&mut self, sources: &Sources<'_, E>, day: u32)
         requires { HasDay self.old day }
         ensures stands { OnlyDays day (day + 1) self.old self.new }
         ensures notes { NotesStand day (day + 1) self.old self.new }
         ensures law { (s : Setting) (h : History) → Told s h sources.now.ledger.now self.old → EstimatesOn s h day (E.Estimator.meaning sources.now.estimator.now) → Ready s h self.old day → Settled s h self.new day }
     {
-        if !self.is_settled(day) {
+        if !self.stands_by_its_note(day) {
             self.settle_day(sources, day);
         }
     }

@@ -35,7 +35,7 @@ impl Sheet {
         ensures law { (s : Setting) (h : History) (l : Ledger) → Told s h l self.old → can_share largest_day_weight reading.now.energy (law.weights s h reading.now) ≡ true → SharesShown s h reading.now self.old self.new }
     {
         let days = &mut self.weighed[reading.start as usize..reading.end as usize];
-        // Never refused for a reading that a book holds; this call cannot show that, so a refusal leaves the days as they are.
+        // Never refused for a reading that a book holds. This call cannot show that: after a refusal the days show what they took last.
         let _ = share(reading.energy, days);
         self.show_shares(reading);
     }

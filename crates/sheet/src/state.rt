@@ -16,7 +16,7 @@ pub struct Sheet {
     pub(crate) figures: Vec<u64>,
     // Arrays of fixed size, since a sheet allocates nothing.
     pub(crate) loads: [Option<u64>; DAYS as usize],
-    // By the loads, so that readings are shared over it in place.
+    // By the loads, so that readings are shared over it in place; it keeps the shares of those shared last.
     pub(crate) weighed: [ReadingDay; DAYS as usize],
     pub(crate) covered_to: [u32; POINTS as usize],
     pub(crate) notes: [DayNote; DAYS as usize],

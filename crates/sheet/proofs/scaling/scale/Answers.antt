@@ -33,4 +33,4 @@ returns-clause-note c =
     let total : sum (estimates_of c.args.rows.now) ≡ c.total_of-estimated.result = sym c.total_of-estimated.ensures in
     let some : 0 < sum (estimates_of c.args.rows.now) = omega (arith, total, c.if-estimated-eq0.false) in
     let above : c.in-Some.load < c.args.supplied + sum (estimates_of c.args.rows.now) = omega (arith, total, small, c.saturating_add.ensures, c.if-saturating_add-load.false) in
-    c.scaled_to.ensures ∙ noted_scaled c.args.load c.args.supplied c.in-Some.load c.saturating_sub-left.result (estimates_of rows) c.in-Some.is c.saturating_sub-left.ensures above some
+    c.note_of_scaled.ensures ∙ noted_scaled c.args.load c.args.supplied c.in-Some.load c.saturating_sub-left.result (estimates_of rows) c.in-Some.is c.saturating_sub-left.ensures above some

@@ -1,4 +1,7 @@
+use Rattle.std.proofs.Common.{vec_items, ◌∙◌}
+use Rattle.reading_places.specs.Places.{placed}
+use Rattle.reading_places.proofs.Held.{any_counted}
 use Rattle.ledger.proofs.state.Ledger.holds_some.Goals as goal
 
 pub returns : goal.returns
-returns g c = λ passes answers. rw c.as_slice.ensures.value at (c.some_passing.ensures passes answers)
+returns g c = λ passes answers. rw c.as_slice.ensures.value at (c.some_passing.ensures passes answers) ∙ any_counted (placed passes) (vec_items c.args.self.now.places)

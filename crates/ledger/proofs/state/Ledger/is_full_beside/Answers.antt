@@ -1,10 +1,12 @@
 use Rattle.std.proofs.Common.{not, leb, count_by, vec_items, rules, sym, ap, ◌∙◌, tests}
 use Rattle.histories.specs.Readings.{replaces}
 use Rattle.reading_places.specs.Places.{placed}
+use Rattle.reading_places.proofs.Held.{all_counted}
 use Rattle.ledger.proofs.state.Ledger.is_full_beside.Goals as goal
 
 pub returns : goal.returns
 returns c =
     let places = c.args.self.now.places in
     rw c.as_slice.ensures.value at (c.all_passing.ensures (λ old. not (replaces c.args.reading.now old)) (λ r b k. search (rules, tests)))
+    ∙ all_counted (placed (λ old. not (replaces c.args.reading.now old))) (vec_items places)
     ∙ ap (λ n. leb n (count_by (placed (λ old. not (replaces c.args.reading.now old))) (vec_items places))) (sym places.ok.0)

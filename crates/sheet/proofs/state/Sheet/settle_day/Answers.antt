@@ -1,17 +1,12 @@
-use Rattle.std.proofs.Common.{◌≡◌, ℕ, ◌+◌, get_or, is_some, rules, sym, ap, ◌∙◌, subst}
-use Rattle.histories.specs.History.{covering}
+use Rattle.std.proofs.Common.{◌+◌, sym, ◌∙◌, subst}
 use Rattle.sheet.specs.Noted.{NoteHolds}
-use Rattle.sheet.specs.Showing.{ShowsDay}
 use Rattle.sheet.proofs.Generating.{generated_shows}
-use Rattle.sheet.specs.declared.state.Sheet.{Sheet}
-use Rattle.sheet.proofs.Keeping.{told_only}
 use Rattle.sheet.proofs.Notes.{note_here, note_settled, noted_only, others_stand}
 use Rattle.sheet.proofs.Stretches.{only_again}
 use Rattle.sheet.proofs.state.Sheet.settle_day.Goals as goal
 
 pub returns : goal.returns
 returns g c =
-    let day = c.args.day in
     let shown = c.show_generated.ensures in
     let noted = c.note.ensures.after in
     record {

@@ -1,4 +1,4 @@
-use Rattle.std.proofs.Common.{◌≡◌, ◌-◌, length, rules, sym, ◌∙◌, arith}
+use Rattle.std.proofs.Common.{◌≡◌, ◌-◌, length, rules, ◌∙◌}
 use Rattle.sheet.proofs.Spreading.{row_weighs, spread_shown}
 use Rattle.sheet.proofs.state.Sheet.share_reading.Goals as goal
 
@@ -16,7 +16,6 @@ invariant_of-self c =
 
 pub returns-clause-law : goal.returns-clause-law
 returns-clause-law c = λ s h l told can.
-    let b = c.args.self.now in
     let many : length c.args.self.now.weighed ≡ 400 = search rules in
     let loads : length c.args.self.now.loads ≡ 400 = search rules in
     spread_shown told many loads c.args.reading.now c.share.new.rows c.show_shares.new.self (record { low = c.requires.low; high = c.requires.high; some = c.requires.some; last = c.requires.last }) can
