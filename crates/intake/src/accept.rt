@@ -45,7 +45,7 @@ impl Intake {
     }
 
     // Opens the book, by an opening within its limits.
-    // Never inlined: a book is made here, and every line would clear a stack of its size.
+    // Never inlined: a book is made here, and every line would touch a stack of its size.
     #[inline(never)]
     fn open(&mut self, opening: records::Opening) -> Result<(), Fault>
         requires { verdict limits (of.Opening opening) ≡ None }

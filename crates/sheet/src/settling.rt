@@ -4,7 +4,7 @@ ghost use Rattle.histories.specs.Figures as law;
 ghost use Rattle.histories.specs.History.{History, Setting, covering};
 ghost use Rattle.ledger.specs.declared.state.Ledger.{Ledger};
 ghost use Rattle.sheet.specs.Cells.{HasCell, HasDay, OnlyDays, cell};
-ghost use Rattle.sheet.specs.Noted.{NotesStand, Ready, Settled};
+ghost use Rattle.sheet.specs.Noted.{NotesStand, Ready, Settled, stands_by_note};
 ghost use Rattle.sheet.specs.Scaling.{estimates_of, figures_of, note_of};
 ghost use Rattle.sheet.specs.Showing.{ShowsDay, ShowsSupplied};
 ghost use Rattle.sheet.specs.Sums.{counted_sum};
@@ -139,7 +139,8 @@ impl Sheet {
     // Whether a day of the sheet shows its figures by what is noted of it, where it shows the supplied ones.
     fn stands_by_its_note(&self, day: u32) -> bool
         requires { HasDay self.now day }
-        ensures { (s : Setting) (h : History) (l : Ledger) → Told s h l self.now → Ready s h self.now day → result ≡ true → ShowsDay s h self.now day }
+        ensures value { result ≡ stands_by_note self.now day }
+        ensures law { (s : Setting) (h : History) (l : Ledger) → Told s h l self.now → Ready s h self.now day → result ≡ true → ShowsDay s h self.now day }
     {
         match self.notes[day as usize] {
             DayNote::NothingKnown => false,
@@ -158,6 +159,7 @@ impl Sheet {
     // Settles a day unless what is noted of it tells that its figures stand.
     pub(crate) fn resettle_day<E: Estimator>(&mut self, sources: &Sources<'_, E>, day: u32)
         requires { HasDay self.old day }
+        ensures left { stands_by_note self.old day ≡ true → self.new ≡ self.old }
         ensures stands { OnlyDays day (day + 1) self.old self.new }
         ensures notes { NotesStand day (day + 1) self.old self.new }
         ensures law { (s : Setting) (h : History) → Told s h sources.now.ledger.now self.old → EstimatesOn s h day (E.Estimator.meaning sources.now.estimator.now) → Ready s h self.old day → Settled s h self.new day }

@@ -5,14 +5,14 @@ use Rattle.sheet.specs.Noted.{NoteHolds}
 use Rattle.sheet.proofs.Notes.{left_settled, nothing_settled, unloaded_settled, within_settled}
 use Rattle.sheet.proofs.state.Sheet.stands_by_its_note.Goals as goal
 
-pub returns-in-NothingEstimated : goal.returns-in-NothingEstimated
-returns-in-NothingEstimated c = λ s h l told ready yes.
+pub returns-in-NothingEstimated-clause-law : goal.returns-in-NothingEstimated-clause-law
+returns-in-NothingEstimated-clause-law c = λ s h l told ready yes.
     let b = c.args.self.now in
     let noted = subst (NoteHolds s h c.args.self.now c.args.day) c.in-NothingEstimated.is ready.1 in
     nothing_settled s h b c.args.day ready.0 noted
 
-pub returns-in-Some : goal.returns-in-Some
-returns-in-Some c = λ s h l told ready yes.
+pub returns-in-Some-clause-law : goal.returns-in-Some-clause-law
+returns-in-Some-clause-law c = λ s h l told ready yes.
     let b = c.args.self.now in
     let day = c.args.day in
     let n = c.in-Some.load in
@@ -22,14 +22,14 @@ returns-in-Some c = λ s h l told ready yes.
     within_settled s h b day n c.sum_of.result told.points loaded (load_bounded s h told.lawful day n loaded)
     (c.sum_of.ensures (λ p. true) (λ p answer has e. search rules)) (leb-true c.sum_of.result n yes) ready.0 noted
 
-pub returns-in-None : goal.returns-in-None
-returns-in-None c = λ s h l told ready yes.
+pub returns-in-None-clause-law : goal.returns-in-None-clause-law
+returns-in-None-clause-law c = λ s h l told ready yes.
     let noted = subst (NoteHolds s h c.args.self.now c.args.day) c.in-EstimatesShown.is ready.1 in
     let within : c.args.day < s.days = omega (arith, told.days, c.requires) in
     unloaded_settled s h c.args.self.now c.args.day (sym (told.loads c.args.day within) ∙ c.in-None.is) ready.0 noted
 
-pub returns-in-Some-loads : goal.returns-in-Some-loads
-returns-in-Some-loads c = λ s h l told ready yes.
+pub returns-in-Some-loads-clause-law : goal.returns-in-Some-loads-clause-law
+returns-in-Some-loads-clause-law c = λ s h l told ready yes.
     let b = c.args.self.now in
     let day = c.args.day in
     let n = c.in-Some-loads.load in
