@@ -4,9 +4,9 @@
 #[cfg(test)]
 mod tests {
     use apportionment::{DayLine, Fault, read_request, spread};
-    use refusals::Refusal;
     use std::process::Abort;
     use std::test::Fail;
+    use terms::Refusal;
     use words::WordFault;
 
     struct Case {

@@ -7,19 +7,19 @@ use Rattle.std.proofs.lemmas.List.{take_all, get_or-map, length-map}
 use Rattle.std.proofs.lemmas.Nat.{mul-le}
 use Rattle.std.proofs.lemmas.List.Sums.{get_or-le-sum_by}
 use Rattle.std.proofs.lemmas.Bool.{leb-true, leb-false, le-leb, lt-ltb, and_from, and_parts, cases_Bool}
-use Rattle.refusals.specs.Answers.{AnswersBy, refused_since}
-use Rattle.refusals.specs.Numbers.{number_of}
-use Rattle.refusals.specs.declared.refusal.Refusal.{Refusal}
-use Rattle.loads.proofs.Laws.{weight_positive, weight_within}
-use Rattle.loads.specs.Loads.{weight}
-use Rattle.sharing.proofs.Handing.{handed_keeps, handed_shows}
-use Rattle.sharing.proofs.Totals.{running_more, running_within, total_within}
-use Rattle.sharing.specs.Limits.{largest_day_weight, largest_product}
-use Rattle.sharing.specs.Kinds.{with_share}
-use Rattle.sharing.specs.Laws.{length_shares}
-use Rattle.sharing.specs.Rows.{handed}
-use Rattle.sharing.specs.Sharing.{can_share, running, shares}
-use Rattle.sharing.specs.declared.reading_day.ReadingDay.{ReadingDay}
+use Rattle.terms.specs.Answers.{AnswersBy, refused_since}
+use Rattle.terms.specs.Numbers.{number_of}
+use Rattle.terms.specs.declared.refusal.Refusal.{Refusal}
+use Rattle.allocation.proofs.LoadLaws.{weight_positive, weight_within}
+use Rattle.allocation.specs.Loads.{weight}
+use Rattle.allocation.proofs.Handing.{handed_keeps, handed_shows}
+use Rattle.allocation.proofs.Totals.{running_more, running_within, total_within}
+use Rattle.allocation.specs.Limits.{largest_day_weight, largest_product}
+use Rattle.allocation.specs.Kinds.{with_share}
+use Rattle.allocation.specs.Laws.{length_shares}
+use Rattle.allocation.specs.Rows.{handed}
+use Rattle.allocation.specs.Sharing.{can_share, running, shares}
+use Rattle.allocation.specs.declared.reading_day.ReadingDay.{ReadingDay}
 use Rattle.apportionment.specs.Days.{day_line, line_of, lines_of, weights_of, shares_of}
 use Rattle.apportionment.specs.Limits.{largest_energy, largest_load, loads_within, most_days, sized}
 use Rattle.apportionment.specs.Table.{table, weights}

@@ -1,6 +1,6 @@
 -- What the calls of this library answer.
 use Rattle.std.specs.Prelude.{◌≡◌, Bool, true, false, Ok, Err, Result}
-use Rattle.refusals.specs.Numbers.{number_of}
+use Rattle.terms.specs.Numbers.{number_of}
 use Rattle.apportionment.specs.declared.fault.Fault.{Fault}
 use Rattle.apportionment.specs.declared.fault.Fault.TheVariants.{TooFewWords, TooManyWords, Word, Refused, Memory}
 

@@ -1,8 +1,8 @@
 -- The days between the loads and the table.
 use Rattle.std.specs.Prelude.{ℕ, ◌+◌, List, map, length, slice_index}
 use Rattle.std.specs.List.{range_with_len}
-use Rattle.sharing.specs.Sharing.{running}
-use Rattle.sharing.specs.declared.reading_day.ReadingDay.{ReadingDay}
+use Rattle.allocation.specs.Sharing.{running}
+use Rattle.allocation.specs.declared.reading_day.ReadingDay.{ReadingDay}
 use Rattle.apportionment.specs.declared.table.DayLine.{DayLine}
 
 -- the weights and the shares of days

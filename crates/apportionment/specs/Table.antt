@@ -1,8 +1,8 @@
 -- The table of an energy spread over the loads of consecutive days.
 use Rattle.std.specs.Prelude.{ℕ, ◌+◌, List, map, length, slice_index}
 use Rattle.std.specs.List.{range_with_len}
-use Rattle.loads.specs.Loads.{weight}
-use Rattle.sharing.specs.Sharing.{running, shares}
+use Rattle.allocation.specs.Loads.{weight}
+use Rattle.allocation.specs.Sharing.{running, shares}
 use Rattle.apportionment.specs.declared.table.DayLine.{DayLine}
 
 -- the weights of the days

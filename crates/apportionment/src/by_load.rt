@@ -1,6 +1,6 @@
 ghost use Rattle.std.specs.Prelude.{◌≡◌, ℕ, ◌+◌, ◌<◌, ◌≤◌, true, map, length, IfOk};
-ghost use Rattle.sharing.specs.Limits.{largest_day_weight};
-ghost use Rattle.sharing.specs.Sharing.{running};
+ghost use Rattle.allocation.specs.Limits.{largest_day_weight};
+ghost use Rattle.allocation.specs.Sharing.{running};
 ghost use Rattle.apportionment.specs.Answers.{Made};
 ghost use Rattle.apportionment.specs.Limits.{loads_within, sized, spreadable};
 ghost use Rattle.apportionment.specs.Table.{table, weights};
@@ -9,10 +9,9 @@ ghost use Rattle.apportionment.specs.Days.{lines_of, weights_of};
 use super::fault::Fault;
 use super::limits::{LARGEST_ENERGY, MOST_DAYS};
 use super::table::DayLine;
-use loads::weight_of;
-use refusals::Refusal;
-use sharing::{ReadingDay, share};
+use allocation::{ReadingDay, share, weight_of};
 use std::alloc::{AllocError, Global};
+use terms::Refusal;
 
 // Spreads an energy over the loads of consecutive days, a line for each day.
 pub fn spread(heap: Global, energy: u64, loads: &[u64]) -> Result<Vec<DayLine>, Fault>

@@ -1,10 +1,10 @@
 ghost use Rattle.std.specs.Prelude.{◌≡◌};
 ghost use Rattle.apportionment.specs.declared.fault.Fault.TheVariants.{Memory, Refused as RefusedCall};
-ghost use Rattle.refusals.specs.declared.refusal.Refusal.{Refusal as Reason};
+ghost use Rattle.terms.specs.declared.refusal.Refusal.{Refusal as Reason};
 
 use super::limits::MOST_DAYS;
-use refusals::Refusal;
 use std::alloc::{AllocError, AllocFailed};
+use terms::Refusal;
 use thiserror::Error;
 use words::WordFault;
 

@@ -2,18 +2,18 @@
 use Rattle.std.proofs.Common.{◌≡◌, ℕ, ◌<◌, ◌≤◌, true, cond, leb, List, is_some, Some, None, Option, Result, unwrap_or, ap, ◌∙◌, arith}
 use Rattle.std.proofs.lemmas.Bool.{and_from, and_parts, false≢true, le-leb, leb-true, lt-ltb, not-false}
 use Rattle.std.specs.Option.{option_map, ok_or}
-use Rattle.histories.specs.Calls.{place, refusal}
-use Rattle.histories.specs.Figures.{figure, load}
-use Rattle.histories.specs.History.{History, Setting}
-use Rattle.histories.specs.declared.call.Call.TheVariants.{AskDay, AskFigure, AskRetailer}
-use Rattle.reading_laws.proofs.Accepted.{accepted}
-use Rattle.refusals.specs.declared.refusal.Refusal.{Refusal}
+use Rattle.rules.specs.Calls.{place, refusal}
+use Rattle.rules.specs.Figures.{figure, load}
+use Rattle.rules.specs.History.{History, Setting}
+use Rattle.rules.specs.declared.call.Call.TheVariants.{AskDay, AskFigure, AskRetailer}
+use Rattle.rules.proofs.Accepted.{accepted}
+use Rattle.terms.specs.declared.refusal.Refusal.{Refusal}
 use Rattle.sheet.specs.Asking.{in_sheet}
 use Rattle.sheet.specs.Cells.{cell}
 use Rattle.sheet.specs.Told.{Stands}
 use Rattle.sheet.specs.declared.day_figures.DayFigures.{DayFigures}
 use Rattle.sheet.specs.declared.state.Sheet.{Sheet}
-use Rattle.sheet_laws.proofs.Entered.{place_within}
+use Rattle.rules.proofs.Entered.{place_within}
 use Rattle.book.specs.Replies.{day_is, told}
 
 -- the figure of a point and day that may be asked for is shown

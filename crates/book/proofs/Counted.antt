@@ -3,19 +3,19 @@ use Rattle.std.proofs.Common.{◌≡◌, ℕ, ◌+◌, ◌<◌, ◌≤◌, true,
 use Rattle.std.proofs.lemmas.Bool.{and_from, both_ways, cases_eq, eq-eqb, le-leb, ne_eqb}
 use Rattle.std.specs.Option.{option_or}
 use Rattle.estimators.specs.Meaning.{Entered, Meaning, weather_within}
-use Rattle.histories.specs.Calls.{Lawful, entry_of, refusal}
-use Rattle.histories.specs.Figures.{under_count}
-use Rattle.histories.specs.History.{History, Setting, count_of}
-use Rattle.histories.specs.declared.call.Call.TheVariants.{EnterDegreeDays}
-use Rattle.histories.specs.declared.entry.Entry.TheVariants.{DegreeDaysEntered}
+use Rattle.rules.specs.Calls.{Lawful, entry_of, refusal}
+use Rattle.rules.specs.Figures.{under_count}
+use Rattle.rules.specs.History.{History, Setting, count_of}
+use Rattle.rules.specs.declared.call.Call.TheVariants.{EnterDegreeDays}
+use Rattle.rules.specs.declared.entry.Entry.TheVariants.{DegreeDaysEntered}
 use Rattle.ledger.proofs.Entries.{count_followed}
 use Rattle.ledger.specs.Beyond.{beyond_days}
 use Rattle.ledger.specs.Told as ledgers
-use Rattle.refusals.specs.Answers.{Answers, refused_since}
-use Rattle.refusals.specs.declared.refusal.Refusal.{Refusal}
+use Rattle.terms.specs.Answers.{Answers, refused_since}
+use Rattle.terms.specs.declared.refusal.Refusal.{Refusal}
 use Rattle.sheet.specs.Told.{Estimates, Stands}
 use Rattle.sheet.specs.declared.state.Sheet.{Sheet}
-use Rattle.sheet_laws.proofs.Entered.{entry_in}
+use Rattle.rules.proofs.Entered.{entry_in}
 use Rattle.book.specs.Follows.{Beyond, Follows}
 use Rattle.book.specs.Replies.{accepted, after, answer, told}
 use Rattle.book.specs.declared.book.Book.{Book}

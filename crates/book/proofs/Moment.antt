@@ -1,20 +1,20 @@
 -- What holds at every moment, and what a call can move. Assumes nothing.
 use Rattle.std.proofs.Common.{◌≡◌, ℕ, ◌<◌, ◌≤◌, false, eqb, ltb, leb, ◌⊎◌, ◌∷◌, Some, None, Option, refl, inl, inr}
 use Rattle.std.proofs.lemmas.Bool.{and_left, and_right, le-ltb, lt-leb}
-use Rattle.figure_laws.proofs.Balanced.{balances, supplied_any_estimator, supplied_shows}
-use Rattle.figure_laws.proofs.Lawfully.{enrolment_moves, figure_before, gate_moves_joined, interval_moves_joined}
-use Rattle.figure_laws.proofs.Local.{count_elsewhere, count_here, reading_elsewhere, reading_others}
-use Rattle.figure_laws.proofs.Retailers.{retailers_balance}
-use Rattle.figure_laws.proofs.Showing.{shows_estimate, shows_share}
-use Rattle.figure_laws.specs.Days.{SameDay}
-use Rattle.histories.specs.Calls.{Lawful, place, reading_of, refusal}
-use Rattle.histories.specs.Figures.{figure}
-use Rattle.histories.specs.History.{History, Setting, covers}
-use Rattle.histories.specs.declared.call.Call.{Call}
-use Rattle.histories.specs.declared.call.Call.TheVariants.{Enrol, EnterGate, EnterInterval, EnterDegreeDays, EnterReading, AskFigure, AskDay, AskRetailer}
-use Rattle.histories.specs.declared.entry.Entry.{Entry}
-use Rattle.histories.specs.declared.entry.Entry.TheVariants.{DegreeDaysEntered, Enrolled, GateEntered, IntervalEntered, ReadingTaken}
-use Rattle.histories.specs.declared.entry.Reading.{Reading}
+use Rattle.rules.proofs.Balanced.{balances, supplied_any_estimator, supplied_shows}
+use Rattle.rules.proofs.Lawfully.{enrolment_moves, figure_before, gate_moves_joined, interval_moves_joined}
+use Rattle.rules.proofs.Local.{count_elsewhere, count_here, reading_elsewhere, reading_others}
+use Rattle.rules.proofs.Retailers.{retailers_balance}
+use Rattle.rules.proofs.Showing.{shows_estimate, shows_share}
+use Rattle.rules.specs.Days.{SameDay}
+use Rattle.rules.specs.Calls.{Lawful, place, reading_of, refusal}
+use Rattle.rules.specs.Figures.{figure}
+use Rattle.rules.specs.History.{History, Setting, covers}
+use Rattle.rules.specs.declared.call.Call.{Call}
+use Rattle.rules.specs.declared.call.Call.TheVariants.{Enrol, EnterGate, EnterInterval, EnterDegreeDays, EnterReading, AskFigure, AskDay, AskRetailer}
+use Rattle.rules.specs.declared.entry.Entry.{Entry}
+use Rattle.rules.specs.declared.entry.Entry.TheVariants.{DegreeDaysEntered, Enrolled, GateEntered, IntervalEntered, ReadingTaken}
+use Rattle.rules.specs.declared.entry.Reading.{Reading}
 use Rattle.book.specs.Moments.{Moment, Moves}
 use Rattle.book.specs.Replies.{lengthened}
 use Rattle.book.proofs.Steps.{asked_stays}

@@ -3,8 +3,8 @@ use Rattle.std.proofs.Common.{◌≡◌, ℕ, ◌*◌, true, false, [], drop, is
 use Rattle.std.proofs.lemmas.Bool.{false≢true, true≢false}
 use Rattle.std.specs.declared.alloc.Global.{Global}
 use Rattle.estimators.specs.Meaning.{Meaning}
-use Rattle.histories.specs.Calls.{meters}
-use Rattle.histories.specs.History.{Setting}
+use Rattle.rules.specs.Calls.{meters}
+use Rattle.rules.specs.History.{Setting}
 use Rattle.ledger.specs.Beyond.{beyond_days}
 use Rattle.ledger.specs.Opened.{OpenedAs, setting_of}
 use Rattle.ledger.specs.Told.{Follows}
@@ -12,7 +12,7 @@ use Rattle.ledger.specs.declared.lists.Lists.{Lists}
 use Rattle.ledger.specs.declared.open.Unopened.{Unopened}
 use Rattle.ledger.specs.declared.opening.OpeningRequest.{OpeningRequest}
 use Rattle.ledger.specs.declared.state.Ledger.{Ledger}
-use Rattle.refusals.specs.declared.refusal.Refusal.{Refusal}
+use Rattle.terms.specs.declared.refusal.Refusal.{Refusal}
 use Rattle.sheet.specs.Told.{Stands}
 use Rattle.sheet.specs.declared.state.Sheet.{Sheet}
 

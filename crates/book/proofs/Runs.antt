@@ -4,14 +4,14 @@ use Rattle.std.proofs.lemmas.List.{take_all, take_more, take_more_set}
 use Rattle.std.specs.List.{list_all}
 use Rattle.estimators.proofs.Tables.{both, first, second}
 use Rattle.estimators.specs.Meaning.{Meaning}
-use Rattle.histories.specs.Calls.{Lawful, entry_of, refusal}
-use Rattle.histories.specs.History.{History, Setting}
-use Rattle.histories.specs.declared.call.Call.{Call}
-use Rattle.histories.specs.declared.entry.Entry.{Entry}
+use Rattle.rules.specs.Calls.{Lawful, entry_of, refusal}
+use Rattle.rules.specs.History.{History, Setting}
+use Rattle.rules.specs.declared.call.Call.{Call}
+use Rattle.rules.specs.declared.entry.Entry.{Entry}
 use Rattle.book.specs.Follows.{Beyond, Follows}
 use Rattle.book.specs.Law.{Law}
 use Rattle.book.specs.Replies.{after, answer, answers_of, history_after, leaves, lengthened, reply}
-use Rattle.refusals.specs.declared.refusal.Refusal.{Refusal}
+use Rattle.terms.specs.declared.refusal.Refusal.{Refusal}
 use Rattle.book.specs.declared.answer.Answer.{Answer}
 use Rattle.book.specs.declared.book.Book.{Book}
 use Rattle.book.proofs.Moment.{moment, moves}

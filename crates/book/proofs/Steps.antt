@@ -4,17 +4,17 @@ use Rattle.std.specs.Result.{IsOkAnd}
 use Rattle.std.proofs.lemmas.Bool.{true≢false}
 use Rattle.std.specs.Option.{option_or}
 use Rattle.estimators.specs.Meaning.{Meaning}
-use Rattle.histories.specs.Calls.{Lawful, entry_of, named_by, place, refusal}
-use Rattle.histories.specs.Figures.{under_count}
-use Rattle.histories.specs.History.{History, Setting, count_in, count_of}
-use Rattle.histories.specs.declared.call.Call.{Call}
-use Rattle.histories.specs.declared.call.Call.TheVariants.{Enrol, EnterGate, EnterInterval, EnterDegreeDays, EnterReading, AskFigure, AskDay, AskRetailer}
-use Rattle.histories.specs.declared.entry.Entry.{Entry}
+use Rattle.rules.specs.Calls.{Lawful, entry_of, named_by, place, refusal}
+use Rattle.rules.specs.Figures.{under_count}
+use Rattle.rules.specs.History.{History, Setting, count_in, count_of}
+use Rattle.rules.specs.declared.call.Call.{Call}
+use Rattle.rules.specs.declared.call.Call.TheVariants.{Enrol, EnterGate, EnterInterval, EnterDegreeDays, EnterReading, AskFigure, AskDay, AskRetailer}
+use Rattle.rules.specs.declared.entry.Entry.{Entry}
 use Rattle.ledger.specs.Beyond.{beyond_days}
 use Rattle.ledger.specs.Told as ledgers
 use Rattle.ledger.specs.declared.state.Ledger.{Ledger}
-use Rattle.refusals.specs.Numbers.{number_of, day_named}
-use Rattle.refusals.specs.declared.refusal.Refusal.{Refusal}
+use Rattle.terms.specs.Numbers.{number_of, day_named}
+use Rattle.terms.specs.declared.refusal.Refusal.{Refusal}
 use Rattle.sheet.specs.Told.{Estimates, Stands, Told}
 use Rattle.book.specs.Follows.{Answers, Beyond, Entered, Follows}
 use Rattle.book.specs.Replies.{Reply, accepted, after, answer, granted, is_count, lengthened, refused, reply, says, told, unless_refused}

@@ -1,13 +1,13 @@
 -- A book and its estimator stand as a history leaves them.
 use Rattle.std.specs.Prelude.{◌≡◌, ℕ, false, List, IfErr, Result}
 use Rattle.estimators.specs.Meaning.{Meaning}
-use Rattle.histories.specs.Calls.{Lawful}
-use Rattle.histories.specs.History.{History, Setting}
-use Rattle.histories.specs.declared.call.Call.{Call}
-use Rattle.histories.specs.declared.entry.Entry.{Entry}
+use Rattle.rules.specs.Calls.{Lawful}
+use Rattle.rules.specs.History.{History, Setting}
+use Rattle.rules.specs.declared.call.Call.{Call}
+use Rattle.rules.specs.declared.entry.Entry.{Entry}
 use Rattle.ledger.specs.Beyond.{beyond_days}
 use Rattle.ledger.specs.Told as ledgers
-use Rattle.refusals.specs.declared.refusal.Refusal.{Refusal}
+use Rattle.terms.specs.declared.refusal.Refusal.{Refusal}
 use Rattle.sheet.specs.Asking.{Limited}
 use Rattle.sheet.specs.Told.{Estimates, Stands}
 use Rattle.book.specs.Replies.{Reply, accepted, after, answer, is_count, told}

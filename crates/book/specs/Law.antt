@@ -1,12 +1,12 @@
 -- The law over every run of calls.
 use Rattle.std.specs.Prelude.{◌≡◌, ℕ, List, ◌∷◌, ◌++◌, map, length, take, Result}
 use Rattle.estimators.specs.Meaning.{Meaning}
-use Rattle.histories.specs.History.{History, Setting}
-use Rattle.histories.specs.declared.call.Call.{Call}
+use Rattle.rules.specs.History.{History, Setting}
+use Rattle.rules.specs.declared.call.Call.{Call}
 use Rattle.book.specs.Follows.{Beyond, Follows}
 use Rattle.book.specs.Moments.{Moment, Moves}
 use Rattle.book.specs.Replies.{answers_of, history_after, reply}
-use Rattle.refusals.specs.declared.refusal.Refusal.{Refusal}
+use Rattle.terms.specs.declared.refusal.Refusal.{Refusal}
 use Rattle.book.specs.declared.answer.Answer.{Answer}
 use Rattle.book.specs.declared.book.Book.{Book}
 

@@ -1,17 +1,17 @@
 -- What holds of the sheet at every moment, and what a call can move.
 use Rattle.std.specs.Prelude.{◌≡◌, ℕ, ◌+◌, ◌-◌, ◌<◌, ◌≤◌, true, false, ◌⊎◌, Some, ◌≢◌, slice_index}
 use Rattle.std.specs.Option.{unwrap_or}
-use Rattle.figure_laws.specs.Balance.{retailers_sum}
-use Rattle.figure_laws.specs.Days.{SameDay}
-use Rattle.figure_laws.specs.Shown.{scaled_on}
-use Rattle.histories.specs.Calls.{place}
-use Rattle.histories.specs.Figures.{active, estimate, estimated, estimates, excess, figure, load, remainder, share_on, supplied, supplied_sum}
-use Rattle.histories.specs.History.{History, Setting, covering}
-use Rattle.histories.specs.Readings.{joined}
-use Rattle.histories.specs.declared.call.Call.{Call}
-use Rattle.histories.specs.declared.call.Call.TheVariants.{Enrol, EnterGate, EnterInterval, EnterDegreeDays, EnterReading, AskFigure, AskDay, AskRetailer}
-use Rattle.histories.specs.declared.entry.Reading.{Reading}
-use Rattle.sharing.specs.Sharing.{shares}
+use Rattle.rules.specs.Balance.{retailers_sum}
+use Rattle.rules.specs.Days.{SameDay}
+use Rattle.rules.specs.Shown.{scaled_on}
+use Rattle.rules.specs.Calls.{place}
+use Rattle.rules.specs.Figures.{active, estimate, estimated, estimates, excess, figure, load, remainder, share_on, supplied, supplied_sum}
+use Rattle.rules.specs.History.{History, Setting, covering}
+use Rattle.rules.specs.Readings.{joined}
+use Rattle.rules.specs.declared.call.Call.{Call}
+use Rattle.rules.specs.declared.call.Call.TheVariants.{Enrol, EnterGate, EnterInterval, EnterDegreeDays, EnterReading, AskFigure, AskDay, AskRetailer}
+use Rattle.rules.specs.declared.entry.Reading.{Reading}
+use Rattle.allocation.specs.Sharing.{shares}
 use Rattle.book.specs.Replies.{after}
 
 -- the figures of every point and day, in a history

@@ -2,12 +2,12 @@
 use Rattle.std.specs.Prelude.{◌≡◌, ℕ, ◌*◌, Bool, not, ◌&&◌, [], ◌∷◌, drop, Some, None, Ok, Err, vec_items, vec_len, Option, Result, nat_le}
 use Rattle.calendar.specs.Digits.{is_date}
 use Rattle.estimators.specs.Meaning.{Bounded, BoundedUnder, Meaning}
-use Rattle.histories.specs.Calls.{first_holding, meters}
-use Rattle.histories.specs.History.{Setting}
+use Rattle.rules.specs.Calls.{first_holding, meters}
+use Rattle.rules.specs.History.{Setting}
 use Rattle.ledger.specs.Opened.{beyond, setting_of}
 use Rattle.ledger.specs.declared.open.Unopened.{Unopened}
 use Rattle.ledger.specs.declared.opening.OpeningRequest.{OpeningRequest}
-use Rattle.refusals.specs.Numbers.{number_of}
+use Rattle.terms.specs.Numbers.{number_of}
 use Rattle.book.specs.Follows.{Beyond, Follows}
 use Rattle.book.specs.declared.book.Book.{Book}
 use Rattle.book.specs.declared.lists.Lists.{Lists}

@@ -1,14 +1,14 @@
 -- What a call is answered, and the history that it leaves.
 use Rattle.std.specs.Prelude.{ℕ, Bool, true, false, List, [], ◌∷◌, Some, None, Ok, Err, Option, Result}
 use Rattle.std.specs.Option.{unwrap_or}
-use Rattle.histories.specs.Calls.{entry_of, named_by, place, refusal}
-use Rattle.histories.specs.Figures.{figure, load, retailer_sum}
-use Rattle.histories.specs.History.{History, Setting}
-use Rattle.histories.specs.declared.call.Call.{Call}
-use Rattle.histories.specs.declared.call.Call.TheVariants.{Enrol, EnterGate, EnterInterval, EnterDegreeDays, EnterReading, AskFigure, AskDay, AskRetailer}
-use Rattle.histories.specs.declared.entry.Entry.{Entry}
-use Rattle.refusals.specs.Numbers.{number_of, day_named}
-use Rattle.refusals.specs.declared.refusal.Refusal.{Refusal}
+use Rattle.rules.specs.Calls.{entry_of, named_by, place, refusal}
+use Rattle.rules.specs.Figures.{figure, load, retailer_sum}
+use Rattle.rules.specs.History.{History, Setting}
+use Rattle.rules.specs.declared.call.Call.{Call}
+use Rattle.rules.specs.declared.call.Call.TheVariants.{Enrol, EnterGate, EnterInterval, EnterDegreeDays, EnterReading, AskFigure, AskDay, AskRetailer}
+use Rattle.rules.specs.declared.entry.Entry.{Entry}
+use Rattle.terms.specs.Numbers.{number_of, day_named}
+use Rattle.terms.specs.declared.refusal.Refusal.{Refusal}
 use Rattle.sheet.specs.Asking.{account}
 use Rattle.sheet.specs.declared.day_figures.DayFigures.{DayFigures}
 use Rattle.book.specs.declared.answer.Answer.{Answer}

@@ -2,7 +2,7 @@ ghost use Rattle.std.specs.Prelude.{◌≡◌};
 
 use super::book::Book;
 use super::lists::Lists;
-use histories::Reading;
+use rules::Reading;
 
 impl Book {
     // The figures, day by day and by point, then what lies beyond.

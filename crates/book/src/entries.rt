@@ -1,11 +1,11 @@
 ghost use Rattle.std.specs.Prelude.{◌≡◌, OnErr};
-ghost use Rattle.histories.specs.declared.call.Call.TheVariants.{Enrol, EnterDegreeDays, EnterGate, EnterInterval, EnterReading};
+ghost use Rattle.rules.specs.declared.call.Call.TheVariants.{Enrol, EnterDegreeDays, EnterGate, EnterInterval, EnterReading};
 ghost use Rattle.book.specs.Follows.{BookLeft, Entered, EnteredBeside};
 
 use super::book::Book;
 use estimators::{Estimator, Weather};
-use histories::Delivery;
-use refusals::Refusal;
+use rules::Delivery;
+use terms::Refusal;
 
 // What the estimator means is named in two traits: a word over both would be no shorter.
 impl Book {

@@ -1,20 +1,20 @@
 ghost use Rattle.std.specs.Prelude.{◌≡◌, ℕ, ◌+◌, ◌<◌, true, List, ◌∷◌, OnErr, OnOk};
 ghost use Rattle.estimators.specs.Meaning.{Entered, weather_within};
-ghost use Rattle.refusals.specs.Answers.{Answers};
-ghost use Rattle.histories.specs.declared.entry.Entry.TheVariants.{DegreeDaysEntered};
-ghost use Rattle.histories.specs.Calls.{Lawful};
-ghost use Rattle.histories.specs.History.{History, Setting};
+ghost use Rattle.terms.specs.Answers.{Answers};
+ghost use Rattle.rules.specs.declared.entry.Entry.TheVariants.{DegreeDaysEntered};
+ghost use Rattle.rules.specs.Calls.{Lawful};
+ghost use Rattle.rules.specs.History.{History, Setting};
 ghost use Rattle.ledger.specs.Told.{Follows};
 ghost use Rattle.sheet.specs.Told.{Estimates, Stands};
-ghost use Rattle.histories.specs.declared.call.Call.{Call};
+ghost use Rattle.rules.specs.declared.call.Call.{Call};
 ghost use Rattle.book.specs.Follows as books;
 ghost use Rattle.book.specs.declared.book.Book.{Book};
 
 use super::book::Book;
 use estimators::{Estimator, Weather};
-use histories::Entry;
-use refusals::Refusal;
+use rules::Entry;
 use sheet::Sources;
+use terms::Refusal;
 
 impl Book {
     // Works out anew what an entry can move, once the ledger holds it.

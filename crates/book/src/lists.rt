@@ -1,4 +1,4 @@
-use histories::Reading;
+use rules::Reading;
 
 // The three lists in whose memory a book is kept: figures day by day and by point, interval energies day by day and by meter,
 // and the places of readings.

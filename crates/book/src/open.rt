@@ -1,12 +1,12 @@
 ghost use Rattle.std.specs.Prelude.{◌≡◌, IfErr, Option, MatchResult};
 ghost use Rattle.book.specs.Opened.{OpenedAs, opening_refusal};
-ghost use Rattle.refusals.specs.Numbers.{number_of};
+ghost use Rattle.terms.specs.Numbers.{number_of};
 
 use super::book::Book;
 use super::lists::Lists;
 use ledger::{Ledger, OpeningRequest, Unopened, judge_opening};
-use refusals::Refusal;
 use sheet::Sheet;
+use terms::Refusal;
 
 // Judges an opening: its numbers and its last day, its first date, and the three lists.
 fn judge(request: OpeningRequest, lists: &Lists) -> Result<(), Refusal>

@@ -1,13 +1,13 @@
 ghost use Rattle.std.specs.Prelude.{ℕ};
 ghost use Rattle.estimators.specs.Meaning.{Meaning};
-ghost use Rattle.histories.specs.declared.call.Call.TheVariants.{AskDay, AskFigure, AskRetailer};
+ghost use Rattle.rules.specs.declared.call.Call.TheVariants.{AskDay, AskFigure, AskRetailer};
 ghost use Rattle.book.specs.Follows.{Answers};
 ghost use Rattle.book.specs.Replies.{day_is, figure_is, sum_is};
 
 use super::book::Book;
 use estimators::{Estimator, Weather};
-use refusals::Refusal;
 use sheet::{DayFigures, Sources};
+use terms::Refusal;
 
 impl Book {
     // The figure of a point and day.

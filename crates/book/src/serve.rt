@@ -1,7 +1,7 @@
 ghost use Rattle.std.specs.Prelude.{◌≡◌, true, false, T, [], length, take, drop, is_ok, IfOk, IfErr, OnErr, OnOk, nat_le};
 ghost use Rattle.std.specs.List.{list_all};
-ghost use Rattle.refusals.specs.Answers.{AcceptedWhen};
-ghost use Rattle.histories.specs.History.{History, Setting};
+ghost use Rattle.terms.specs.Answers.{AcceptedWhen};
+ghost use Rattle.rules.specs.History.{History, Setting};
 ghost use Rattle.book.specs.Follows.{Beyond, Follows};
 ghost use Rattle.book.specs.Law.{Law};
 ghost use Rattle.book.specs.Opened.{Opens, rest_of, setting};
@@ -11,9 +11,9 @@ use super::answer::Answer;
 use super::book::Book;
 use super::lists::Lists;
 use estimators::{Estimator, Weather};
-use histories::Call;
 use ledger::{OpeningRequest, Unopened};
-use refusals::Refusal;
+use rules::Call;
+use terms::Refusal;
 
 // A book that was opened, and whether there was room for the answers to all calls.
 #[derive(Drop)]

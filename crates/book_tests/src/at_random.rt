@@ -6,15 +6,14 @@ use super::calls::{
 };
 use super::recomputed::{Area, Count, Enrolled, Gate, Metered, Taken, Worked};
 use book::{Answer, Book, OpeningRequest};
-use by_weather::{ByWeather, Factors};
+use estimates::{ByWeather, Factors};
 use estimators::Weather;
-use histories::Call;
-use readings::ReadingType;
-use refusals::Refusal;
+use rules::Call;
 use sheet::DayFigures;
 use std::alloc::{AllocError, Global};
 use std::process::Abort;
 use std::test::Fail;
+use terms::{ReadingType, Refusal};
 
 // The days of the books and a few days more, over the end of a leap year's February.
 const DATES: [u32; 18] = [

@@ -6,8 +6,8 @@ use super::calls::{
 use super::plain_estimators::{Greatest, Silent};
 use book::Answer;
 use estimators::{Estimator, Weather};
-use refusals::Refusal;
 use std::test::Fail;
+use terms::Refusal;
 
 // Every estimated point is missing, and what is not supplied is the remainder.
 #[test]

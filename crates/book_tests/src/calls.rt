@@ -1,13 +1,12 @@
 // Calls by their shortest names, and a book that serves a table of them.
 use book::{Answer, Book, Lists, OpeningRequest};
 use estimators::Weather;
-use histories::{Call, Delivery};
-use readings::ReadingType;
-use refusals::Refusal;
+use rules::{Call, Delivery};
 use sheet::DayFigures;
 use std::alloc::Global;
 use std::process::Abort;
 use std::test::Fail;
+use terms::{ReadingType, Refusal};
 
 // A call, and what it is to be answered.
 pub(crate) type Case = (Call, Result<Answer, Refusal>);

@@ -2,10 +2,10 @@
 use super::calls::{account, actual, begins, day, degree_days, enrol, from_july, gate, sevens};
 use super::plain_estimators::Silent;
 use book::{Answer, Book, Served, Unopened};
-use by_weather::{ByWeather, Factors};
+use estimates::{ByWeather, Factors};
 use estimators::Estimator;
-use refusals::Refusal;
 use std::test::Fail;
+use terms::Refusal;
 
 // What a place for an answer holds that no call has.
 const UNANSWERED: Result<Answer, Refusal> = Ok(Answer::Figure(7));

@@ -7,7 +7,7 @@ ghost use Rattle.book_tests.specs.Laws.{none_bounded, greatest_bounded, greatest
 use estimators::{
     Estimator, GREATEST_FIGURE, Weather, count_within, day_within, judge_weather, point_within,
 };
-use refusals::Refusal;
+use terms::Refusal;
 
 // Knows no figure at all.
 #[derive(Drop)]

@@ -1,9 +1,8 @@
 // What the rules make of the calls that a book accepted, worked out from nothing each time. It shares no code with the book.
-use by_weather::Factors;
-use readings::ReadingType;
-use refusals::Refusal;
+use estimates::Factors;
 use std::alloc::{AllocError, Global};
 use std::ops::Range;
+use terms::{ReadingType, Refusal};
 
 // Days are counted from 0, the book's first.
 #[derive(Clone, Copy, PartialEq, Eq, Debug)]

@@ -5,8 +5,8 @@ use super::calls::{
 };
 use super::plain_estimators::Silent;
 use book::Answer;
-use refusals::Refusal;
 use std::test::Fail;
+use terms::Refusal;
 
 // Numbers beyond their limits, dates that do not exist, and dates outside a book of three days and two points. The first
 // reason answers where there are several.

@@ -4,13 +4,12 @@ use super::calls::{
     opened, refused, retailer, serve_table,
 };
 use book::{Answer, Book, Lists, OpeningRequest, Unopened};
-use by_weather::{ByWeather, Factors};
+use estimates::{ByWeather, Factors};
 use estimators::Estimator;
-use histories::Reading;
-use readings::ReadingType;
-use refusals::Refusal;
+use rules::Reading;
 use std::process::Abort;
 use std::test::Fail;
+use terms::{ReadingType, Refusal};
 
 // Point 2 uses 30 megajoules on a day whose count is known.
 fn weather() -> Result<ByWeather, Fail> {

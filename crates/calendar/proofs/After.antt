@@ -1,8 +1,8 @@
 -- The date after a date has the next number, so that day after day every number below the last is reached. Assumes nothing.
 use Rattle.std.proofs.Common.{◌≡◌, ℕ, zero, suc, ◌+◌, ◌<◌, ◌≤◌, cond, T, ltb, Result, sym, refl, ap, ◌∙◌, arith}
 use Rattle.std.proofs.lemmas.Bool.{cond_both, ltb-true, ltb-false}
-use Rattle.refusals.specs.Answers.{Answers, AnswersBy}
-use Rattle.refusals.specs.declared.refusal.Refusal.{Refusal}
+use Rattle.terms.specs.Answers.{Answers, AnswersBy}
+use Rattle.terms.specs.declared.refusal.Refusal.{Refusal}
 use Rattle.calendar.specs.Gregorian.{leap, month_lengths, month_length, exists, days_before_month, days_before_year, day_number, days_in_all}
 use Rattle.calendar.specs.Digits.{is_date, day_number_of, date_after, date_numbered, digits, Numbered}
 use Rattle.calendar.specs.Dates.{digits_of, number_of}

@@ -1,9 +1,9 @@
 -- From a test that passed, or failed, to what a call answers. Assumes nothing.
 use Rattle.std.proofs.Common.{◌≡◌, ℕ, Bool, true, false, Ok, Err, Result, refl}
 use mathlib.Core.Path.{subst⁻¹}
-use Rattle.refusals.specs.Answers.{AnswersBy}
-use Rattle.refusals.specs.declared.refusal.Refusal.{Refusal}
-use Rattle.refusals.specs.declared.refusal.Refusal.TheVariants.{NoSuchDate}
+use Rattle.terms.specs.Answers.{AnswersBy}
+use Rattle.terms.specs.declared.refusal.Refusal.{Refusal}
+use Rattle.terms.specs.declared.refusal.Refusal.TheVariants.{NoSuchDate}
 
 -- the test passed, and P holds of the value given
 pub accepted : {X : Type 0} {test : Bool} (P : X → Type 0) {x : X} (n : ℕ) → P x → test ≡ true → AnswersBy (Ok x) test P n

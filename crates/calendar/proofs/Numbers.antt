@@ -2,8 +2,8 @@
 use Rattle.std.proofs.Common.{◌≡◌, ℕ, ◌+◌, ◌-◌, ◌<◌, ◌≤◌, ltb, Ok, Err, Some, None, Option, inl, inr, unwrap_or, arith}
 use Rattle.std.specs.Option.{MatchOption}
 use Rattle.std.proofs.lemmas.Bool.{cases_lt, lt-ltb, le-ltb}
-use Rattle.refusals.specs.Answers.{AnswersBy}
-use Rattle.refusals.specs.declared.refusal.Refusal.TheVariants.{NoSuchDate}
+use Rattle.terms.specs.Answers.{AnswersBy}
+use Rattle.terms.specs.declared.refusal.Refusal.TheVariants.{NoSuchDate}
 use Rattle.calendar.specs.Gregorian.{month_length, days_before_month, year_length, days_before_year, day_number, days_in_all}
 use Rattle.calendar.specs.Dates.{number_of, place_in_year}
 use Rattle.calendar.specs.declared.date.Date.{Date}

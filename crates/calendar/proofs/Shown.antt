@@ -1,6 +1,6 @@
 -- A date and the eight digits that show it. Assumes nothing.
 use Rattle.std.proofs.Common.{◌≡◌, ℕ, T, Ok, sym, refl, ◌∙◌, arith}
-use Rattle.refusals.specs.Answers.{AnswersBy}
+use Rattle.terms.specs.Answers.{AnswersBy}
 use Rattle.calendar.specs.Digits.{year_shown, month_shown, day_shown, is_date, day_number_of, Numbered}
 use Rattle.calendar.specs.Dates.{digits_of, number_of}
 use Rattle.calendar.specs.declared.date.Date.{Date}

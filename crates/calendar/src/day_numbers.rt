@@ -1,5 +1,5 @@
 ghost use Rattle.std.specs.Prelude.{◌≡◌, ◌+◌, ◌<◌, ◌≤◌, nat_lt};
-ghost use Rattle.refusals.specs.Answers.{Answers, AnswersBy};
+ghost use Rattle.terms.specs.Answers.{Answers, AnswersBy};
 ghost use Rattle.calendar.specs.Gregorian.{days_before_month, days_in_all, year_length};
 ghost use Rattle.calendar.specs.Digits.{is_date, day_number_of, Numbered};
 ghost use Rattle.calendar.specs.Dates.{number_of, place_in_year};
@@ -8,7 +8,7 @@ use super::date::Date;
 use super::gregorian::{
     DAYS_IN_YEAR, FIRST_YEAR, LAST_YEAR, days_before_month, days_before_year, month_length,
 };
-use refusals::Refusal;
+use terms::Refusal;
 
 // The days from 1 January 2001 to 31 December 2099.
 pub const DAYS_IN_ALL: u32 = 36_159;

@@ -1,11 +1,11 @@
 ghost use Rattle.std.specs.Prelude.{◌≡◌};
-ghost use Rattle.refusals.specs.Answers.{AnswersBy};
+ghost use Rattle.terms.specs.Answers.{AnswersBy};
 ghost use Rattle.calendar.specs.Digits.{is_date};
 ghost use Rattle.calendar.specs.Dates.{digits_of};
 
 use super::date::Date;
 use super::gregorian::day_exists;
-use refusals::Refusal;
+use terms::Refusal;
 
 impl Date {
     // The date that a number of eight digits shows, year first. No `TryFrom`: a day number is a u32 too.

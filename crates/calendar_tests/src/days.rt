@@ -1,8 +1,8 @@
 // What the calendar says of days known from elsewhere, and of every day in turn.
 use calendar::{DAYS_IN_ALL, Date, date_of_day_number, day_number_of, day_numbers_follow_dates};
-use refusals::Refusal;
 use std::process::Abort;
 use std::test::Fail;
+use terms::Refusal;
 
 // A day by its eight digits, the days from 1 January 2001 to it, and its place in its year.
 const DAYS: [(u32, u32, u32); 29] = [

@@ -3,7 +3,7 @@
 
 mod usage;
 
-use feed::Feed;
+use report::Feed;
 use std::env;
 use std::fs::File;
 use std::io::{BufWriter, Write};

@@ -1,5 +1,5 @@
-use refusals::Refusal;
 use std::io;
+use terms::Refusal;
 
 // One case of each refusal, in the order of the checks; the two that name a day name none here.
 const REFUSALS: [Refusal; 15] = [

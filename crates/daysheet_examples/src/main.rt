@@ -1,7 +1,7 @@
 // The shipped examples: the report of each input is held to the one that lies beside it.
 #![tactic(auto)]
 
-use feed::report;
+use report::report;
 use std::fs::{self, File};
 
 const EXAMPLES: [&str; 3] = ["sample", "month", "refusals"];

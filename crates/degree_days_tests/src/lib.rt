@@ -3,9 +3,9 @@
 
 #[cfg(test)]
 mod tests {
-    use degree_days::{Observations, Terms};
-    use refusals::Refusal;
+    use estimates::{Observations, Terms};
     use std::process::Abort;
+    use terms::Refusal;
 
     // A day of one temperature and one wind throughout.
     fn steady(temperature: i32, wind: u32, sunshine: u32) -> Observations {

@@ -3,15 +3,13 @@
 
 mod shown;
 
-use by_weather::{ByWeather, Factors};
-use degree_days::Observations;
+use estimates::{ByWeather, Factors, HotWater, Observations, Usage};
 use estimators::{Cap, FallBack, Weather};
-use hot_water::{HotWater, Usage};
-use refusals::Refusal;
 use shown::{AnswerShown, TermShown};
 use std::process::ExitCode;
 use std::str::FromStr;
 use std::{array, env, io};
+use terms::Refusal;
 use weather_day::{Answer, Reckoning, Word, reckon};
 
 // A date, eight temperatures, sixteen winds and sunshine.

@@ -1,5 +1,5 @@
 // How terms and answers are shown.
-use degree_days::HUNDREDTH;
+use estimates::HUNDREDTH;
 use std::fmt;
 use weather_day::{Answer, Half};
 

@@ -1,5 +1,5 @@
 ghost use Rattle.std.specs.Prelude.{◌≡◌, replicate, if◌then◌else◌, Option};
-ghost use Rattle.refusals.specs.Answers.{Answers};
+ghost use Rattle.terms.specs.Answers.{Answers};
 ghost use Rattle.estimators.specs.Limits.{last_point};
 ghost use Rattle.estimators.specs.Caps.{flow_of, at_most, capped, flow_within, with_flow};
 ghost use Rattle.estimators.specs.Capped.{capped_bounded, capped_ranged, capped_bounded_under, capped_ranged_under};
@@ -7,7 +7,7 @@ ghost use Rattle.estimators.specs.Capped.{capped_bounded, capped_ranged, capped_
 use super::entries::entry_numbered;
 use super::estimator::{Estimator, Weather};
 use super::limits::{GREATEST_FIGURE, POINTS, point_within};
-use refusals::Refusal;
+use terms::Refusal;
 
 // The figures of an estimator, at most a point's greatest daily flow where it has one.
 #[derive(Drop)]

@@ -1,8 +1,8 @@
 ghost use Rattle.std.specs.Prelude.{◌≡◌, ℕ, true, false};
-ghost use Rattle.refusals.specs.Answers.{Answers};
+ghost use Rattle.terms.specs.Answers.{Answers};
 ghost use Rattle.estimators.specs.Meaning.{Meaning, Bounded, Ranged, BoundedUnder, RangedUnder, Entered, weather_within};
 
-use refusals::Refusal;
+use terms::Refusal;
 
 // What a point is thought to use on a day.
 pub trait Estimator {

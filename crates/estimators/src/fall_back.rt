@@ -2,7 +2,7 @@ ghost use Rattle.estimators.specs.Meaning.{first_of};
 ghost use Rattle.estimators.specs.Joined.{joined_bounded, joined_ranged, joined_bounded_under, joined_ranged_under};
 
 use super::estimator::{Estimator, Weather};
-use refusals::Refusal;
+use terms::Refusal;
 
 // The first estimator's figure where it has one, else the second's.
 #[derive(Drop)]

@@ -1,9 +1,9 @@
 ghost use Rattle.std.specs.Prelude.{◌≡◌};
-ghost use Rattle.refusals.specs.Answers.{Answers};
+ghost use Rattle.terms.specs.Answers.{Answers};
 ghost use Rattle.estimators.specs.Limits as bounds;
 ghost use Rattle.estimators.specs.Meaning.{weather_within};
 
-use refusals::Refusal;
+use terms::Refusal;
 
 // Points are numbered from 1 to this.
 pub const POINTS: u32 = 256;

@@ -1,7 +1,7 @@
 // What an estimator is asked, and what it is to answer.
 use estimators::{Estimator, Weather};
-use refusals::Refusal;
 use std::test::Fail;
+use terms::Refusal;
 
 // The figures of points on days.
 pub(crate) fn figures<E: Estimator>(

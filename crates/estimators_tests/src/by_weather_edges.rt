@@ -1,5 +1,5 @@
 use super::asked::{figures, figures_under, refused, weather_refused};
-use by_weather::{ByWeather, Factors};
+use estimates::{ByWeather, Factors};
 use estimators::Weather;
 use std::test::Fail;
 

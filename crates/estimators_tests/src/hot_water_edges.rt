@@ -1,8 +1,8 @@
 use super::asked::{figures, figures_under, refused, weather_refused};
+use estimates::{HotWater, Usage};
 use estimators::Weather;
-use hot_water::{HotWater, Usage};
-use refusals::Refusal;
 use std::test::Fail;
+use terms::Refusal;
 
 pub(crate) const FLAT: Usage = Usage {
     litres: 9_000,

@@ -1,9 +1,8 @@
 use super::asked::{figures, figures_under, refused, weather_refused};
 use super::by_weather_edges::HOUSE;
 use super::hot_water_edges::FLAT;
-use by_weather::ByWeather;
+use estimates::{ByWeather, HotWater};
 use estimators::{Cap, FallBack, Weather};
-use hot_water::HotWater;
 use std::test::Fail;
 
 type Pair = FallBack<ByWeather, HotWater>;

@@ -7,21 +7,21 @@ use Rattle.std.specs.List.{find, range_with_len}
 use Rattle.std.specs.Option.{option_map}
 use Rattle.calendar.proofs.After.{date_numbered_back}
 use Rattle.calendar.specs.Digits.{Numbered, date_numbered, day_number_of, is_date}
-use Rattle.histories.specs.Calls.{after_all_marks, end_not_allowed, first_without_load, in_book, place, places_full, refusal, soft_over_firm, started_before}
-use Rattle.histories.specs.Figures as figures
-use Rattle.histories.specs.History.{History, Setting, enrolment_of, gate_of}
-use Rattle.histories.specs.Readings.{held_of, mark, replaces, some_reading, starts}
-use Rattle.histories.specs.declared.call.Call.TheVariants.{AskDay}
-use Rattle.histories.specs.declared.entry.Reading.{Reading}
-use Rattle.readings.specs.Types.{firm}
-use Rattle.reading_places.specs.Places.{placed}
-use Rattle.refusals.specs.Answers.{AnswersBy, accepted_since}
-use Rattle.refusals.specs.declared.refusal.Refusal.{Refusal}
+use Rattle.rules.specs.Calls.{after_all_marks, end_not_allowed, first_without_load, in_book, place, places_full, refusal, soft_over_firm, started_before}
+use Rattle.rules.specs.Figures as figures
+use Rattle.rules.specs.History.{History, Setting, enrolment_of, gate_of}
+use Rattle.rules.specs.Readings.{held_of, mark, replaces, some_reading, starts}
+use Rattle.rules.specs.declared.call.Call.TheVariants.{AskDay}
+use Rattle.rules.specs.declared.entry.Reading.{Reading}
+use Rattle.terms.specs.Types.{firm}
+use Rattle.ledger.specs.Places.{placed}
+use Rattle.terms.specs.Answers.{AnswersBy, accepted_since}
+use Rattle.terms.specs.declared.refusal.Refusal.{Refusal}
 use Rattle.ledger.specs.Days.{DayAnswers, within_days}
 use Rattle.ledger.specs.Marks.{after_marks_at, end_allowed_at, full_at, mark_at, soft_over_firm_at, some_at}
 use Rattle.ledger.specs.Told.{Follows}
 use Rattle.ledger.specs.declared.state.Ledger.{Ledger}
-use Rattle.reading_places.proofs.Held.{some_counted}
+use Rattle.ledger.proofs.Held.{some_counted}
 
 one_more : (a b : ℕ) → leb a b ≡ ltb a (b + 1)
 one_more a b = grind (arith, nat_tests)

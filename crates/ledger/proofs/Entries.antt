@@ -1,17 +1,17 @@
 -- A ledger that follows a history follows it with the entry that it has taken. Assumes nothing.
 use Rattle.std.proofs.Common.{◌≡◌, ℕ, ◌+◌, ◌-◌, ◌*◌, ◌<◌, ◌≤◌, Bool, true, false, cond, not, ◌&&◌, eqb, ltb, leb, List, ◌∷◌, length, Some, None, vec_items, count_by, filter, sym, ap, ◌∙◌, ⊎_elim, add_comm, arith}
 use Rattle.std.proofs.lemmas.Bool.{and_cases, and_from, and_parts, eqb-true, eqb-false, le-leb, leb-true, lt-ltb}
-use Rattle.histories.specs.Calls.{between, meters}
-use Rattle.histories.specs.History.{History, Setting, enrolment_of, gate_of, interval_in, latest}
-use Rattle.histories.specs.declared.entry.Entry.TheVariants.{DegreeDaysEntered, Enrolled, GateEntered, IntervalEntered, ReadingTaken}
-use Rattle.histories.specs.Readings.{held_of, replaces}
-use Rattle.histories.specs.declared.entry.Enrolment.{Enrolment}
-use Rattle.histories.specs.declared.entry.GateDay.{GateDay}
-use Rattle.histories.specs.declared.entry.Reading.{Reading}
+use Rattle.rules.specs.Calls.{between, meters}
+use Rattle.rules.specs.History.{History, Setting, enrolment_of, gate_of, interval_in, latest}
+use Rattle.rules.specs.declared.entry.Entry.TheVariants.{DegreeDaysEntered, Enrolled, GateEntered, IntervalEntered, ReadingTaken}
+use Rattle.rules.specs.Readings.{held_of, replaces}
+use Rattle.rules.specs.declared.entry.Enrolment.{Enrolment}
+use Rattle.rules.specs.declared.entry.GateDay.{GateDay}
+use Rattle.rules.specs.declared.entry.Reading.{Reading}
 use Rattle.ledger.specs.Changes.{WithEnrolment, WithGate, WithInterval, WithReading}
 use Rattle.ledger.specs.Told.{Follows}
 use Rattle.ledger.specs.declared.state.Ledger.{Ledger}
-use Rattle.reading_places.proofs.Held.{count_cons, count_kept}
+use Rattle.ledger.proofs.Held.{count_cons, count_kept}
 use Rattle.ledger.proofs.Tables.{put_read, or_other, or_value}
 
 pub gate_followed : {s : Setting} {h : History} {day : ℕ} {gate : GateDay} {old new : Ledger} → WithGate day gate old new → day < old.opening.days → day < length old.gates → Follows s h old → Follows s (GateEntered day gate ∷ h) new

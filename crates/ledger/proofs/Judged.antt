@@ -3,16 +3,16 @@ use Rattle.std.proofs.Common.{◌≡◌, ℕ, ◌+◌, Bool, true, false, cond, 
 use Rattle.std.proofs.lemmas.Bool.{and_from, cond-false, cond-true, not_from_false, not_from_true}
 use Rattle.std.specs.Option.{option_or}
 use Rattle.calendar.specs.Digits.{date_numbered, day_number_of, is_date}
-use Rattle.histories.specs.Calls.{between, beyond_limits, covered_named, covered_without_load, days_of, end_not_allowed, energy_within, entry_of, first_without_load, in_book, negative_energy, no_such_date, not_enrolled, outside_book, reading_of, refusal, start_no_mark}
-use Rattle.histories.specs.History.{History, Setting}
-use Rattle.histories.specs.declared.call.Call.{Call}
-use Rattle.histories.specs.declared.call.Call.TheVariants.{EnterReading}
-use Rattle.histories.specs.declared.call.Delivery.{Delivery}
-use Rattle.histories.specs.declared.entry.Entry.TheVariants.{ReadingTaken}
-use Rattle.histories.specs.declared.entry.Reading.{Reading}
-use Rattle.refusals.specs.Numbers.{day_named, number_of}
-use Rattle.refusals.specs.declared.refusal.Refusal.{Refusal}
-use Rattle.refusals.specs.declared.refusal.Refusal.TheVariants.{MalformedLine, OutOfTurn, BeyondLimits, NoSuchDate, OutsideBook, NegativeEnergy, PointNotEnrolled, PointEnrolledAlready, StartIsNoMark, EndNotAllowed, CoveredDayWithoutLoad, SoftOverFirm, ReadingPlacesFull, AskedDayWithoutLoad, ListTooShort}
+use Rattle.rules.specs.Calls.{between, beyond_limits, covered_named, covered_without_load, days_of, end_not_allowed, energy_within, entry_of, first_without_load, in_book, negative_energy, no_such_date, not_enrolled, outside_book, reading_of, refusal, start_no_mark}
+use Rattle.rules.specs.History.{History, Setting}
+use Rattle.rules.specs.declared.call.Call.{Call}
+use Rattle.rules.specs.declared.call.Call.TheVariants.{EnterReading}
+use Rattle.rules.specs.declared.call.Delivery.{Delivery}
+use Rattle.rules.specs.declared.entry.Entry.TheVariants.{ReadingTaken}
+use Rattle.rules.specs.declared.entry.Reading.{Reading}
+use Rattle.terms.specs.Numbers.{day_named, number_of}
+use Rattle.terms.specs.declared.refusal.Refusal.{Refusal}
+use Rattle.terms.specs.declared.refusal.Refusal.TheVariants.{MalformedLine, OutOfTurn, BeyondLimits, NoSuchDate, OutsideBook, NegativeEnergy, PointNotEnrolled, PointEnrolledAlready, StartIsNoMark, EndNotAllowed, CoveredDayWithoutLoad, SoftOverFirm, ReadingPlacesFull, AskedDayWithoutLoad, ListTooShort}
 use Rattle.ledger.specs.Days.{within_days}
 use Rattle.ledger.specs.Judging.{NumbersJudged, SpanJudged, numbers_refusal, span_named, span_refusal}
 use Rattle.ledger.specs.Marks.{end_allowed_at, full_at, mark_at, soft_over_firm_at}

@@ -1,3 +1,4 @@
+pub mod Held
 pub mod Tables
 pub mod Entries
 pub mod Judged

@@ -8,12 +8,12 @@ use Rattle.std.proofs.lemmas.Bool.Decides.{nat_tests}
 use Rattle.std.specs.List.{range_with_len}
 use Rattle.std.specs.Result.{result_ok}
 use Rattle.estimators.proofs.Tables.{read_passes}
-use Rattle.histories.specs.Figures as figures
-use Rattle.histories.specs.History.{History, Setting, gate_of}
-use Rattle.histories.specs.declared.entry.GateDay.{GateDay}
-use Rattle.loads.specs.Loads as loads
-use Rattle.refusals.specs.Answers.{Answers, accepted_since}
-use Rattle.refusals.specs.declared.refusal.Refusal.{Refusal}
+use Rattle.rules.specs.Figures as figures
+use Rattle.rules.specs.History.{History, Setting, gate_of}
+use Rattle.rules.specs.declared.entry.GateDay.{GateDay}
+use Rattle.allocation.specs.Loads as loads
+use Rattle.terms.specs.Answers.{Answers, accepted_since}
+use Rattle.terms.specs.declared.refusal.Refusal.{Refusal}
 use Rattle.ledger.specs.Limits.{gate_within, interval_within, opening_within}
 use Rattle.ledger.specs.Told.{Follows, interval_at, meters_sum}
 use Rattle.ledger.specs.declared.opening.Opening.{Opening}

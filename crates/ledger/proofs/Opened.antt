@@ -6,10 +6,10 @@ use Rattle.std.specs.List.{list_all}
 use Rattle.calendar.specs.Digits.{day_number_of, is_date}
 use Rattle.calendar.specs.Gregorian.{days_in_all}
 use Rattle.estimators.specs.Meaning.{Meaning}
-use Rattle.histories.specs.Calls.{between, meters}
-use Rattle.histories.specs.declared.entry.Reading.{Reading}
-use Rattle.reading_places.proofs.Held.{count_cons}
-use Rattle.reading_places.specs.Places.{placed}
+use Rattle.rules.specs.Calls.{between, meters}
+use Rattle.rules.specs.declared.entry.Reading.{Reading}
+use Rattle.ledger.proofs.Held.{count_cons}
+use Rattle.ledger.specs.Places.{placed}
 use Rattle.ledger.specs.Limits.{interval_within, opening_within}
 use Rattle.ledger.specs.Opened.{beyond, opening_of, opening_refusal, setting_of, short_lists}
 use Rattle.ledger.specs.Told.{Follows}

@@ -1,6 +1,6 @@
 -- What the lists of a ledger hold beyond the book's places.
 use Rattle.std.specs.Prelude.{ℕ, ◌*◌, List, drop, vec_items}
-use Rattle.histories.specs.Calls.{meters}
+use Rattle.rules.specs.Calls.{meters}
 use Rattle.ledger.specs.declared.state.Ledger.{Ledger}
 
 -- what the interval list holds beyond the book's days

@@ -1,10 +1,10 @@
 -- What an entry changes in a ledger; all else stays.
 use Rattle.std.specs.Prelude.{◌≡◌, ℕ, ◌+◌, ◌-◌, ◌*◌, Bool, cond, not, ◌&&◌, Some, vec_items, vec_len, count_by, slice_set}
-use Rattle.histories.specs.Readings.{replaces}
-use Rattle.histories.specs.declared.entry.Enrolment.{Enrolment}
-use Rattle.histories.specs.declared.entry.GateDay.{GateDay}
-use Rattle.histories.specs.declared.entry.Reading.{Reading}
-use Rattle.reading_places.specs.Places.{placed}
+use Rattle.rules.specs.Readings.{replaces}
+use Rattle.rules.specs.declared.entry.Enrolment.{Enrolment}
+use Rattle.rules.specs.declared.entry.GateDay.{GateDay}
+use Rattle.rules.specs.declared.entry.Reading.{Reading}
+use Rattle.ledger.specs.Places.{placed}
 use Rattle.ledger.specs.declared.state.Ledger.{Ledger}
 
 -- a day has new gate energies

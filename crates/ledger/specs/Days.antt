@@ -1,8 +1,8 @@
 -- The days of a book.
 use Rattle.std.specs.Prelude.{ℕ, ◌+◌, ◌-◌, ◌<◌, Bool, ◌&&◌, Result, MatchBool, nat_le, nat_lt}
 use Rattle.calendar.specs.Digits.{day_number_of, is_date}
-use Rattle.refusals.specs.Answers.{Answers, RefusedBy}
-use Rattle.refusals.specs.declared.refusal.Refusal.{Refusal}
+use Rattle.terms.specs.Answers.{Answers, RefusedBy}
+use Rattle.terms.specs.declared.refusal.Refusal.{Refusal}
 use Rattle.ledger.specs.declared.opening.Opening.{Opening}
 use Rattle.ledger.specs.declared.state.Ledger.{Ledger}
 

@@ -1,12 +1,12 @@
 -- A reading is judged in two steps: its numbers and its point first, then what it covers.
 use Rattle.std.specs.Prelude.{◌≡◌, ℕ, cond, [], ◌∷◌, Some, None, Ok, Err, Option, Result, ◌==◌}
-use Rattle.refusals.specs.Numbers.{number_of, day_named}
-use Rattle.refusals.specs.declared.refusal.Refusal.{Refusal}
-use Rattle.histories.specs.Calls.{beyond_limits, covered_named, covered_without_load, days_of, end_not_allowed, entry_of, first_holding, first_without_load, negative_energy, no_such_date, not_enrolled, outside_book, places_full, soft_over_firm, start_no_mark}
-use Rattle.histories.specs.History.{History, Setting}
-use Rattle.histories.specs.declared.call.Call.{Call}
-use Rattle.histories.specs.declared.entry.Entry.TheVariants.{ReadingTaken}
-use Rattle.histories.specs.declared.entry.Reading.{Reading}
+use Rattle.terms.specs.Numbers.{number_of, day_named}
+use Rattle.terms.specs.declared.refusal.Refusal.{Refusal}
+use Rattle.rules.specs.Calls.{beyond_limits, covered_named, covered_without_load, days_of, end_not_allowed, entry_of, first_holding, first_without_load, negative_energy, no_such_date, not_enrolled, outside_book, places_full, soft_over_firm, start_no_mark}
+use Rattle.rules.specs.History.{History, Setting}
+use Rattle.rules.specs.declared.call.Call.{Call}
+use Rattle.rules.specs.declared.entry.Entry.TheVariants.{ReadingTaken}
+use Rattle.rules.specs.declared.entry.Reading.{Reading}
 
 -- the refusals of a call for its numbers, its dates and its point
 abbrev pub numbers_refusal : Setting → History → Call → Option ℕ

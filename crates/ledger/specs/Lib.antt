@@ -1,3 +1,4 @@
+pub mod Places
 pub mod Beyond
 pub mod Changes
 pub mod Days

@@ -2,9 +2,9 @@
 use Rattle.std.specs.Prelude.{ℕ, ◌+◌, Bool, true, ◌&&◌, Some, None, Option, nat_le, nat_lt}
 use Rattle.calendar.specs.Gregorian.{days_in_all}
 use Rattle.estimators.specs.Limits.{last_day, last_point}
-use Rattle.histories.specs.Calls.{largest_interval}
-use Rattle.histories.specs.declared.entry.GateDay.{GateDay}
-use Rattle.loads.specs.Loads.{largest_gate, largest_unaccounted}
+use Rattle.rules.specs.Calls.{largest_interval}
+use Rattle.rules.specs.declared.entry.GateDay.{GateDay}
+use Rattle.allocation.specs.Loads.{largest_gate, largest_unaccounted}
 use Rattle.ledger.specs.declared.opening.Opening.{Opening}
 
 -- a book has at most 400 days, 256 points and 2,000 ten-thousandths of unaccounted-for gas, and the day after its last is a date

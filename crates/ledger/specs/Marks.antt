@@ -1,10 +1,10 @@
 -- Marks, replaced readings and room, as the tables of a ledger have them.
 use Rattle.std.specs.Prelude.{ℕ, ◌<◌, Bool, not, ◌&&◌, ◌||◌, vec_items, vec_len, count_by, ◌==◌, nat_le, nat_lt}
-use Rattle.readings.specs.Types.{firm}
-use Rattle.histories.specs.Calls.{started_before}
-use Rattle.histories.specs.Readings.{replaces, starts}
-use Rattle.histories.specs.declared.entry.Reading.{Reading}
-use Rattle.reading_places.specs.Places.{placed}
+use Rattle.terms.specs.Types.{firm}
+use Rattle.rules.specs.Calls.{started_before}
+use Rattle.rules.specs.Readings.{replaces, starts}
+use Rattle.rules.specs.declared.entry.Reading.{Reading}
+use Rattle.ledger.specs.Places.{placed}
 use Rattle.ledger.specs.Told.{enrolment_at}
 use Rattle.ledger.specs.declared.state.Ledger.{Ledger}
 

@@ -4,11 +4,11 @@ use Rattle.calendar.specs.Digits.{day_number_of, is_date}
 use Rattle.calendar.specs.Gregorian.{days_in_all}
 use Rattle.estimators.specs.Limits.{last_day, last_point}
 use Rattle.estimators.specs.Meaning.{Meaning}
-use Rattle.histories.specs.Calls.{between, first_holding, meters}
-use Rattle.histories.specs.History.{Setting}
-use Rattle.loads.specs.Loads.{largest_unaccounted}
-use Rattle.refusals.specs.Numbers.{number_of}
-use Rattle.refusals.specs.declared.refusal.Refusal.{Refusal}
+use Rattle.rules.specs.Calls.{between, first_holding, meters}
+use Rattle.rules.specs.History.{Setting}
+use Rattle.allocation.specs.Loads.{largest_unaccounted}
+use Rattle.terms.specs.Numbers.{number_of}
+use Rattle.terms.specs.declared.refusal.Refusal.{Refusal}
 use Rattle.ledger.specs.Told.{Follows}
 use Rattle.ledger.specs.declared.lists.Lists.{Lists}
 use Rattle.ledger.specs.declared.open.Unopened.{Unopened}

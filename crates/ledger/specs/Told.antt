@@ -1,17 +1,17 @@
 -- What a ledger says, and when it says what a history has told.
 use Rattle.std.specs.Prelude.{◌≡◌, ℕ, ◌+◌, ◌-◌, ◌*◌, Bool, cond, ◌&&◌, ◌∷◌, map, Some, None, Ok, Err, vec_items, vec_len, sum, count_by, Option, Result, OnErr, nat_lt, slice_index, slice_index_or}
 use Rattle.std.specs.List.{range_with_len}
-use Rattle.refusals.specs.Numbers.{number_of, day_named}
-use Rattle.refusals.specs.declared.refusal.Refusal.{Refusal}
-use Rattle.histories.specs.Calls.{between, entry_of, meters, named_by, place, refusal}
-use Rattle.histories.specs.History.{History, Setting, enrolment_of, gate_of, interval_of}
-use Rattle.histories.specs.Readings.{held_of}
-use Rattle.histories.specs.declared.call.Call.{Call}
-use Rattle.histories.specs.declared.entry.Enrolment.{Enrolment}
-use Rattle.histories.specs.declared.entry.Entry.{Entry}
-use Rattle.histories.specs.declared.entry.GateDay.{GateDay}
-use Rattle.histories.specs.declared.entry.Reading.{Reading}
-use Rattle.reading_places.specs.Places.{placed}
+use Rattle.terms.specs.Numbers.{number_of, day_named}
+use Rattle.terms.specs.declared.refusal.Refusal.{Refusal}
+use Rattle.rules.specs.Calls.{between, entry_of, meters, named_by, place, refusal}
+use Rattle.rules.specs.History.{History, Setting, enrolment_of, gate_of, interval_of}
+use Rattle.rules.specs.Readings.{held_of}
+use Rattle.rules.specs.declared.call.Call.{Call}
+use Rattle.rules.specs.declared.entry.Enrolment.{Enrolment}
+use Rattle.rules.specs.declared.entry.Entry.{Entry}
+use Rattle.rules.specs.declared.entry.GateDay.{GateDay}
+use Rattle.rules.specs.declared.entry.Reading.{Reading}
+use Rattle.ledger.specs.Places.{placed}
 use Rattle.ledger.specs.Beyond.{beyond_days}
 use Rattle.ledger.specs.declared.state.Ledger.{Ledger}
 

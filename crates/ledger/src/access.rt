@@ -3,7 +3,7 @@ ghost use Rattle.std.specs.Prelude.{◌≡◌};
 use super::lists::Lists;
 use super::opening::Opening;
 use super::state::Ledger;
-use histories::Reading;
+use rules::Reading;
 
 impl Ledger {
     // How the book was opened.

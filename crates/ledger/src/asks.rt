@@ -1,12 +1,12 @@
 ghost use Rattle.std.specs.Prelude.{◌≡◌, is_some};
-ghost use Rattle.histories.specs.Figures as figures;
-ghost use Rattle.histories.specs.History.{History, Setting};
-ghost use Rattle.histories.specs.declared.call.Call.TheVariants.{AskDay, AskFigure, AskRetailer};
+ghost use Rattle.rules.specs.Figures as figures;
+ghost use Rattle.rules.specs.History.{History, Setting};
+ghost use Rattle.rules.specs.declared.call.Call.TheVariants.{AskDay, AskFigure, AskRetailer};
 ghost use Rattle.ledger.specs.Told.{Asked, Follows};
 
 use super::limits::retailer_within;
 use super::state::Ledger;
-use refusals::Refusal;
+use terms::Refusal;
 
 impl Ledger {
     // Whether a day has a load.

@@ -1,8 +1,8 @@
 ghost use Rattle.std.specs.Prelude.{◌≡◌, ◌+◌, ◌-◌, ◌≤◌, IfSome};
 ghost use Rattle.std.specs.List.{range_with_len};
 ghost use Rattle.calendar.specs.Digits.{date_numbered};
-ghost use Rattle.histories.specs.Calls.{first_without_load};
-ghost use Rattle.histories.specs.History.{History, Setting};
+ghost use Rattle.rules.specs.Calls.{first_without_load};
+ghost use Rattle.rules.specs.History.{History, Setting};
 ghost use Rattle.ledger.specs.Days.{HasDay};
 ghost use Rattle.ledger.specs.Told.{Follows};
 

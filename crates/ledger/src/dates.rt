@@ -1,10 +1,10 @@
 ghost use Rattle.std.specs.Prelude.{◌≡◌, ◌-◌, ◌≤◌};
-ghost use Rattle.refusals.specs.Answers.{Answers};
+ghost use Rattle.terms.specs.Answers.{Answers};
 ghost use Rattle.ledger.specs.Days.{DayAnswers, within_days};
 
 use super::state::Ledger;
 use calendar::day_number_of;
-use refusals::Refusal;
+use terms::Refusal;
 
 impl Ledger {
     // The place of a day number among the book's days, or among so many more.

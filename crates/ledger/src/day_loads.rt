@@ -1,13 +1,13 @@
 ghost use Rattle.std.specs.Prelude.{◌≡◌, ◌≤◌, IfSome};
-ghost use Rattle.histories.specs.Figures as figures;
-ghost use Rattle.histories.specs.History.{History, Setting};
-ghost use Rattle.loads.specs.Loads.{largest_gate};
+ghost use Rattle.rules.specs.Figures as figures;
+ghost use Rattle.rules.specs.History.{History, Setting};
+ghost use Rattle.allocation.specs.Loads.{largest_gate};
 ghost use Rattle.ledger.specs.Days.{HasDay};
 ghost use Rattle.ledger.specs.Told.{Follows, meters_sum};
 
 use super::limits::METERS;
 use super::state::Ledger;
-use loads::{adjust_for_unaccounted, net_system_load};
+use allocation::{adjust_for_unaccounted, net_system_load};
 
 impl Ledger {
     // The sum of what the interval meters burn on a day of the book.

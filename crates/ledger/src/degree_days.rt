@@ -1,14 +1,14 @@
 ghost use Rattle.std.specs.Prelude.{IfOk};
-ghost use Rattle.histories.specs.History.{History, Setting};
-ghost use Rattle.histories.specs.declared.call.Call.TheVariants.{EnterDegreeDays};
-ghost use Rattle.histories.specs.declared.entry.Entry.TheVariants.{DegreeDaysEntered};
+ghost use Rattle.rules.specs.History.{History, Setting};
+ghost use Rattle.rules.specs.declared.call.Call.TheVariants.{EnterDegreeDays};
+ghost use Rattle.rules.specs.declared.entry.Entry.TheVariants.{DegreeDaysEntered};
 ghost use Rattle.ledger.specs.Days.{HasDay};
 ghost use Rattle.ledger.specs.Told.{Answered, Follows, Judged};
 
 use super::state::Ledger;
 use estimators::GREATEST_COUNT;
-use histories::Entry;
-use refusals::Refusal;
+use rules::Entry;
+use terms::Refusal;
 
 impl Ledger {
     // The day of a degree-day count that can be entered. The estimator keeps the count; the ledger does not change.

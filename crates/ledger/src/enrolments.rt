@@ -1,15 +1,15 @@
 ghost use Rattle.std.specs.Prelude.{◌≡◌, ℕ, ◌-◌, ◌<◌, ◌≤◌, length, OnErr, OnOk};
-ghost use Rattle.histories.specs.Calls.{between};
-ghost use Rattle.histories.specs.History.{History, Setting, enrolment_of};
-ghost use Rattle.histories.specs.declared.call.Call.TheVariants.{Enrol};
-ghost use Rattle.histories.specs.declared.entry.Entry.TheVariants.{Enrolled};
+ghost use Rattle.rules.specs.Calls.{between};
+ghost use Rattle.rules.specs.History.{History, Setting, enrolment_of};
+ghost use Rattle.rules.specs.declared.call.Call.TheVariants.{Enrol};
+ghost use Rattle.rules.specs.declared.entry.Entry.TheVariants.{Enrolled};
 ghost use Rattle.ledger.specs.Told.{Enters, Follows, Judged, enrolment_at};
 ghost use Rattle.ledger.specs.Changes.{WithEnrolment};
 
 use super::limits::retailer_within;
 use super::state::Ledger;
-use histories::{Enrolment, Entry};
-use refusals::Refusal;
+use rules::{Enrolment, Entry};
+use terms::Refusal;
 
 impl Ledger {
     // Whether the book has such a point.

@@ -1,16 +1,16 @@
 ghost use Rattle.std.specs.Prelude.{◌<◌, T, length, IfOk, Option};
-ghost use Rattle.histories.specs.History.{History, Setting};
-ghost use Rattle.histories.specs.declared.call.Call.TheVariants.{EnterGate};
-ghost use Rattle.histories.specs.declared.entry.Entry.TheVariants.{GateEntered};
+ghost use Rattle.rules.specs.History.{History, Setting};
+ghost use Rattle.rules.specs.declared.call.Call.TheVariants.{EnterGate};
+ghost use Rattle.rules.specs.declared.entry.Entry.TheVariants.{GateEntered};
 ghost use Rattle.ledger.specs.Limits.{gate_within};
 ghost use Rattle.ledger.specs.Days.{HasDay};
 ghost use Rattle.ledger.specs.Told.{Enters, Follows, Judged};
 ghost use Rattle.ledger.specs.Changes.{WithGate};
 
 use super::state::Ledger;
-use histories::{Entry, GateDay};
-use loads::LARGEST_GATE;
-use refusals::Refusal;
+use allocation::LARGEST_GATE;
+use rules::{Entry, GateDay};
+use terms::Refusal;
 
 impl Ledger {
     // The day of a gate entry that can be made.

@@ -1,20 +1,20 @@
 ghost use Rattle.std.specs.Prelude.{◌≡◌, ℕ, ◌<◌, ◌≤◌, not, IfOk, vec_len, count_by, OnErr};
-ghost use Rattle.histories.specs.History.{History, Setting};
-ghost use Rattle.histories.specs.Readings as held;
-ghost use Rattle.histories.specs.declared.call.Call.TheVariants.{EnterReading};
-ghost use Rattle.histories.specs.declared.entry.Entry.TheVariants.{ReadingTaken};
+ghost use Rattle.rules.specs.History.{History, Setting};
+ghost use Rattle.rules.specs.Readings as held;
+ghost use Rattle.rules.specs.declared.call.Call.TheVariants.{EnterReading};
+ghost use Rattle.rules.specs.declared.entry.Entry.TheVariants.{ReadingTaken};
 ghost use Rattle.ledger.specs.Changes.{WithReading};
 ghost use Rattle.ledger.specs.Judging.{NumbersJudged};
 ghost use Rattle.ledger.specs.Marks.{HasRoomFor};
-ghost use Rattle.reading_places.specs.Places.{placed};
+ghost use Rattle.ledger.specs.Places.{placed};
 ghost use Rattle.ledger.specs.Told.{Enters, Follows, Judged};
 
 use super::limits::LARGEST_ENERGY;
 use super::state::Ledger;
+use crate::{free_replaced, take_place};
 use calendar::day_number_of;
-use histories::{Delivery, Entry, Reading};
-use reading_places::{free_replaced, take_place};
-use refusals::Refusal;
+use rules::{Delivery, Entry, Reading};
+use terms::Refusal;
 
 impl Ledger {
     // Judges the numbers of a reading, its dates and its point, and puts days in the place of dates.

@@ -1,7 +1,7 @@
 ghost use Rattle.std.specs.Prelude.{◌+◌, ◌-◌, ◌*◌, ◌<◌, ◌≤◌, T, length, IfOk};
-ghost use Rattle.histories.specs.History.{History, Setting};
-ghost use Rattle.histories.specs.declared.call.Call.TheVariants.{EnterInterval};
-ghost use Rattle.histories.specs.declared.entry.Entry.TheVariants.{IntervalEntered};
+ghost use Rattle.rules.specs.History.{History, Setting};
+ghost use Rattle.rules.specs.declared.call.Call.TheVariants.{EnterInterval};
+ghost use Rattle.rules.specs.declared.entry.Entry.TheVariants.{IntervalEntered};
 ghost use Rattle.ledger.specs.Limits.{interval_within};
 ghost use Rattle.ledger.specs.Days.{HasDay};
 ghost use Rattle.ledger.specs.Told.{Enters, Follows, Judged};
@@ -9,8 +9,8 @@ ghost use Rattle.ledger.specs.Changes.{WithInterval};
 
 use super::limits::{LARGEST_INTERVAL, METERS};
 use super::state::Ledger;
-use histories::Entry;
-use refusals::Refusal;
+use rules::Entry;
+use terms::Refusal;
 
 impl Ledger {
     // The day of an interval energy that can be entered.

@@ -1,5 +1,5 @@
 ghost use Rattle.std.specs.Prelude.{◌≡◌};
-ghost use Rattle.histories.specs.Calls.{between, retailers};
+ghost use Rattle.rules.specs.Calls.{between, retailers};
 
 // The interval meters of an area, numbered from 1.
 pub(crate) const METERS: u32 = 32;

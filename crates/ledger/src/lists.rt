@@ -1,4 +1,4 @@
-use histories::Reading;
+use rules::Reading;
 
 // The two lists in whose memory a ledger is kept: the interval energies, and the places of readings.
 #[derive(Debug, Drop)]

@@ -1,17 +1,17 @@
 ghost use Rattle.std.specs.Prelude.{◌≡◌, Bool, not, ◌&&◌, ◌==◌, nat_le};
 ghost use Rattle.std.specs.Option.{option_map};
 ghost use Rattle.std.specs.Fn.{FnReturnsAt};
-ghost use Rattle.histories.specs.Calls.{after_all_marks, end_not_allowed};
-ghost use Rattle.histories.specs.History.{History, Setting};
-ghost use Rattle.histories.specs.Readings as held;
-ghost use Rattle.histories.specs.declared.entry.Reading.{Reading};
-ghost use Rattle.reading_places.specs.Places.{AnswersAs};
+ghost use Rattle.rules.specs.Calls.{after_all_marks, end_not_allowed};
+ghost use Rattle.rules.specs.History.{History, Setting};
+ghost use Rattle.rules.specs.Readings as held;
+ghost use Rattle.rules.specs.declared.entry.Reading.{Reading};
+ghost use Rattle.ledger.specs.Places.{AnswersAs};
 ghost use Rattle.ledger.specs.Marks.{after_marks_at, end_allowed_at, mark_at, some_at};
 ghost use Rattle.ledger.specs.Told.{Follows, enrolment_at};
 
 use super::state::Ledger;
-use histories::Reading;
-use reading_places::some_passing;
+use crate::some_passing;
+use rules::Reading;
 
 impl Ledger {
     // Whether some held reading passes a test.

@@ -8,10 +8,10 @@ use super::limits::METERS;
 use super::lists::Lists;
 use super::opening::{Opening, OpeningRequest};
 use super::state::Ledger;
+use allocation::LARGEST_UNACCOUNTED;
 use calendar::{DAYS_IN_ALL, day_number_of};
 use estimators::{DAYS, POINTS, day_within, point_within};
-use loads::LARGEST_UNACCOUNTED;
-use refusals::Refusal;
+use terms::Refusal;
 use thiserror::Error;
 
 // Why a ledger, or a book over it, was not opened, and its lists as they were.

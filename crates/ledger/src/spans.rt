@@ -1,16 +1,16 @@
 ghost use Rattle.std.specs.Prelude.{◌≡◌, ◌≤◌, ◌&&◌, OnOk};
-ghost use Rattle.histories.specs.Calls.{soft_over_firm};
-ghost use Rattle.histories.specs.History.{History, Setting};
-ghost use Rattle.histories.specs.Readings as held;
+ghost use Rattle.rules.specs.Calls.{soft_over_firm};
+ghost use Rattle.rules.specs.History.{History, Setting};
+ghost use Rattle.rules.specs.Readings as held;
 ghost use Rattle.ledger.specs.Judging.{SpanJudged};
 ghost use Rattle.ledger.specs.Marks.{HasRoomFor, full_at, soft_over_firm_at, some_at};
-ghost use Rattle.readings.specs.Types.{firm};
+ghost use Rattle.terms.specs.Types.{firm};
 ghost use Rattle.ledger.specs.Told.{Follows};
 
 use super::state::Ledger;
-use histories::Reading;
-use reading_places::{all_passing, replaces};
-use refusals::Refusal;
+use crate::{all_passing, replaces};
+use rules::Reading;
+use terms::Refusal;
 
 impl Ledger {
     // Whether a firm reading is held that a new one would replace.

@@ -4,7 +4,7 @@ ghost use Rattle.ledger.specs.Limits.{opening_within, gate_within, interval_with
 
 use super::opening::Opening;
 use estimators::{DAYS, POINTS};
-use histories::{Enrolment, GateDay, Reading};
+use rules::{Enrolment, GateDay, Reading};
 
 // The gate energies by day, the interval energies day by day and by meter, the enrolments by point, and the held readings,
 // each in a place of its own.

@@ -1,10 +1,9 @@
 // Deliveries of meter data, as they come in over a month.
-use histories::Delivery;
 use ledger::{Ledger, Lists, OpeningRequest};
-use readings::ReadingType;
-use refusals::Refusal;
+use rules::Delivery;
 use std::alloc::Global;
 use std::test::Fail;
+use terms::{ReadingType, Refusal};
 
 // A reading of a point as it is delivered.
 fn reading(point: u32, start: u32, end: u32, energy: i64, reading_type: ReadingType) -> Delivery {

@@ -3,7 +3,7 @@
 
 mod words;
 
-use limits::{Limits, check_line};
+use line_format::{Limits, check_line};
 use std::io;
 use std::io::{BufRead, BufReader};
 use words::Words;

@@ -1,4 +1,6 @@
-use records::{DegreeDays, Enrolment, Factors, GateDay, IntervalEnergy, Opening, Reading, Record};
+use line_format::{
+    DegreeDays, Enrolment, Factors, GateDay, IntervalEnergy, Opening, Reading, Record,
+};
 use std::fmt;
 
 // A record in words. A type of this program's own, since only that may have a `Display` here.

@@ -1,8 +1,8 @@
 // What the book is told in July, in the order in which it came, and what it is asked at the end of the month.
 use super::month::{DAYS, FIRST, LAST};
-use histories::{Call, Delivery};
-use readings::ReadingType;
+use rules::{Call, Delivery};
 use std::alloc::{AllocError, Global};
+use terms::ReadingType;
 
 // The two retailers.
 pub const NORTHERN: u32 = 4;

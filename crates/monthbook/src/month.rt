@@ -1,10 +1,10 @@
 ghost use Rattle.std.specs.Prelude.{◌≡◌, length, IfOk, vec_len};
 
 use book::{Answer, Book, Lists, OpeningRequest};
-use by_weather::{ByWeather, Factors};
-use histories::Call;
-use refusals::Refusal;
+use estimates::{ByWeather, Factors};
+use rules::Call;
 use std::alloc::Global;
+use terms::Refusal;
 
 // July 2024. From the first to the last, dates are counted by their digits, so both lie in one month.
 pub const FIRST: u32 = 20240701;

@@ -1,9 +1,9 @@
 // Calls and answers in words. Each type of another crate is shown by one of this program, since only that may have a `Display`.
 use book::Answer;
-use histories::{Call, Delivery};
-use refusals::Refusal;
+use rules::{Call, Delivery};
 use sheet::DayFigures;
 use std::fmt;
+use terms::Refusal;
 
 // A date by its digits: a call may name a date that does not exist.
 #[derive(Clone, Copy, PartialEq, Eq, Debug)]

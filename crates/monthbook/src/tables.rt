@@ -3,10 +3,10 @@ use super::calls::{NORTHERN, QUESTIONS, SOUTHERN};
 use super::month::{DAYS, FIRST, LAST, POINTS};
 use super::shown::{AnswerShown, CallShown, DateShown};
 use book::Answer;
-use histories::Call;
-use refusals::Refusal;
+use rules::Call;
 use sheet::DayFigures;
 use std::io;
+use terms::Refusal;
 
 // Each call with its number and its answer.
 pub(crate) fn print_calls(

@@ -3,14 +3,14 @@ use Rattle.std.proofs.Common.{◌≡◌, ℕ, ◌+◌, ◌-◌, ◌^◌, ◌≤�
 use Rattle.std.proofs.lemmas.Bool.{cond_both}
 use Rattle.std.specs.List.{range_with_len}
 use Rattle.std.specs.Option.{option_map}
-use Rattle.figure_laws.proofs.Balanced.{length_generated, two_kinds}
-use Rattle.figure_laws.proofs.Day.{covered_not_estimated, generated_none}
-use Rattle.figure_laws.proofs.Over.{map_over, row_from_one}
-use Rattle.histories.specs.Calls.{Lawful}
-use Rattle.histories.specs.Figures.{belongs, estimate, estimated, figure, figures_sum, generated, generated_sum, load, missing, retailer_sum, share_on, supplied_sum, under_count}
-use Rattle.histories.specs.History.{History, Setting, count_of, covering, enrolment_of}
-use Rattle.histories.specs.declared.entry.Reading.{Reading}
-use Rattle.sheet_laws.proofs.Bounds.{figure_bounded, sum_bounded}
+use Rattle.rules.proofs.Balanced.{length_generated, two_kinds}
+use Rattle.rules.proofs.Day.{covered_not_estimated, generated_none}
+use Rattle.rules.proofs.Over.{map_over, row_from_one}
+use Rattle.rules.specs.Calls.{Lawful}
+use Rattle.rules.specs.Figures.{belongs, estimate, estimated, figure, figures_sum, generated, generated_sum, load, missing, retailer_sum, share_on, supplied_sum, under_count}
+use Rattle.rules.specs.History.{History, Setting, count_of, covering, enrolment_of}
+use Rattle.rules.specs.declared.entry.Reading.{Reading}
+use Rattle.rules.proofs.Bounds.{figure_bounded, sum_bounded}
 use Rattle.sheet.specs.Asking.{Limited, account, day_account}
 use Rattle.sheet.specs.Cells.{cell}
 use Rattle.sheet.specs.Sums.{counted_sum}

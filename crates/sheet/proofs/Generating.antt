@@ -3,11 +3,11 @@ use Rattle.std.proofs.Common.{◌≡◌, ℕ, ◌+◌, ◌-◌, ◌*◌, ◌<◌
 use Rattle.std.proofs.lemmas.Bool.{cases_eq}
 use Rattle.std.specs.List.{range_with_len}
 use Rattle.std.specs.Option.{option_map}
-use Rattle.figure_laws.proofs.Balanced.{supplied_shows}
-use Rattle.figure_laws.proofs.Over.{map_over}
-use Rattle.histories.specs.Figures.{figure, generated, share_on, supplied, supplied_sum}
-use Rattle.histories.specs.History.{History, Setting, covering}
-use Rattle.histories.specs.declared.entry.Reading.{Reading}
+use Rattle.rules.proofs.Balanced.{supplied_shows}
+use Rattle.rules.proofs.Over.{map_over}
+use Rattle.rules.specs.Figures.{figure, generated, share_on, supplied, supplied_sum}
+use Rattle.rules.specs.History.{History, Setting, covering}
+use Rattle.rules.specs.declared.entry.Reading.{Reading}
 use Rattle.sheet.specs.Cells.{cell}
 use Rattle.sheet.specs.Sums.{counted_sum}
 use Rattle.sheet.specs.Learning.{WithNote}

@@ -1,19 +1,19 @@
 -- Readings over a day, shared anew one after another. Assumes nothing.
 use Rattle.std.proofs.Common.{◌≡◌, ℕ, ◌+◌, ◌*◌, ◌<◌, ◌≤◌, min, max, Bool, true, false, cond, ◌&&◌, List, length, get_or, is_some, Some, None, vec_items, Option, sym, refl, ap, ◌∙◌, subst, ⊎_elim, mul-le-mul_right, arith}
 use Rattle.std.proofs.lemmas.Bool.{and_parts, both_ways, cases_Bool, cases_lt, cond-false, cond-true}
-use Rattle.histories.specs.Figures.{share_on, weights}
-use Rattle.histories.specs.History.{History, Setting, covering, covers}
-use Rattle.histories.specs.Readings.{held_of}
-use Rattle.histories.specs.declared.entry.Reading.{Reading}
+use Rattle.rules.specs.Figures.{share_on, weights}
+use Rattle.rules.specs.History.{History, Setting, covering, covers}
+use Rattle.rules.specs.Readings.{held_of}
+use Rattle.rules.specs.declared.entry.Reading.{Reading}
 use Rattle.ledger.specs.declared.state.Ledger.{Ledger}
-use Rattle.reading_laws.specs.Held.{Held}
-use Rattle.reading_laws.proofs.LastCovering.{covering_held, held_covering}
-use Rattle.reading_laws.proofs.Members.{some_among}
-use Rattle.reading_laws.proofs.Spans.{covers_facts}
-use Rattle.sharing.specs.Limits.{largest_day_weight}
-use Rattle.sharing.specs.Sharing.{can_share}
-use Rattle.sheet_laws.proofs.Bounds.{held_within, reading_shareable}
-use Rattle.sheet_laws.proofs.Placed.{held_is_placed, placed_is_held}
+use Rattle.rules.specs.Held.{Held}
+use Rattle.rules.proofs.LastCovering.{covering_held, held_covering}
+use Rattle.rules.proofs.Members.{some_among}
+use Rattle.rules.proofs.Spans.{covers_facts}
+use Rattle.allocation.specs.Limits.{largest_day_weight}
+use Rattle.allocation.specs.Sharing.{can_share}
+use Rattle.rules.proofs.Bounds.{held_within, reading_shareable}
+use Rattle.sheet.proofs.Placed.{held_is_placed, placed_is_held}
 use Rattle.sheet.specs.Cells.{OnlyDays, cell}
 use Rattle.sheet.specs.Shares.{LiesIn, SharedOver, SharesShown}
 use Rattle.sheet.specs.Told.{Told}

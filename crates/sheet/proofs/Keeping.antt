@@ -1,8 +1,8 @@
 -- What a change of the figures of some days leaves of a sheet. Assumes nothing.
 use Rattle.std.proofs.Common.{ℕ, get_or, None, sym, ap, ◌∙◌, subst}
-use Rattle.histories.specs.History.{History, Setting}
+use Rattle.rules.specs.History.{History, Setting}
 use Rattle.ledger.specs.declared.state.Ledger.{Ledger}
-use Rattle.sheet_laws.specs.CoveredTo.{CoveredTo}
+use Rattle.sheet.specs.CoveredTo.{CoveredTo}
 use Rattle.sheet.specs.Cells.{OnlyDays}
 use Rattle.sheet.specs.Told.{Told}
 use Rattle.sheet.specs.declared.state.Sheet.{Sheet}

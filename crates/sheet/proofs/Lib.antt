@@ -1,3 +1,6 @@
+pub mod CoveredTo
+pub mod Placed
+pub mod Rows
 pub mod Asked
 pub mod Counting
 pub mod Generating

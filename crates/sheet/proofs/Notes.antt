@@ -6,17 +6,17 @@ use Rattle.std.proofs.lemmas.List.Sums.{get_or-le-sum_by, sum_by-cons}
 use Rattle.std.proofs.lemmas.List.{get_or_past, get_or-set_other, get_or-set_same}
 use Rattle.std.specs.List.{range_with_len}
 use Rattle.std.specs.Option.{option_map}
-use Rattle.figure_laws.proofs.Balanced.{exceeded_means, scaling_only_lowers, supplied_shows}
-use Rattle.figure_laws.proofs.Day.{covered_not_estimated}
-use Rattle.figure_laws.proofs.Local.{silent, stays_covered}
-use Rattle.figure_laws.proofs.Over.{map_over, sum_added}
-use Rattle.histories.specs.Figures.{active, begun, estimate, estimate_counted, estimated, estimates, estimates_sum, exceeded, figure, generated, load, points_of, share_on, supplied, supplied_sum, under_count}
-use Rattle.histories.specs.History.{History, Setting, count_in, covering}
-use Rattle.histories.specs.declared.entry.Entry.TheVariants.{DegreeDaysEntered, ReadingTaken}
-use Rattle.histories.specs.declared.entry.Reading.{Reading}
-use Rattle.sharing.specs.Sharing.{shares}
-use Rattle.sheet_laws.proofs.Bounds.{share_most}
-use Rattle.sheet_laws.specs.LoadMoved.{LoadMoved}
+use Rattle.rules.proofs.Balanced.{exceeded_means, scaling_only_lowers, supplied_shows}
+use Rattle.rules.proofs.Day.{covered_not_estimated}
+use Rattle.rules.proofs.Local.{silent, stays_covered}
+use Rattle.rules.proofs.Over.{map_over, sum_added}
+use Rattle.rules.specs.Figures.{active, begun, estimate, estimate_counted, estimated, estimates, estimates_sum, exceeded, figure, generated, load, points_of, share_on, supplied, supplied_sum, under_count}
+use Rattle.rules.specs.History.{History, Setting, count_in, covering}
+use Rattle.rules.specs.declared.entry.Entry.TheVariants.{DegreeDaysEntered, ReadingTaken}
+use Rattle.rules.specs.declared.entry.Reading.{Reading}
+use Rattle.allocation.specs.Sharing.{shares}
+use Rattle.rules.proofs.Bounds.{share_most}
+use Rattle.rules.specs.LoadMoved.{LoadMoved}
 use Rattle.sheet.specs.Cells.{OnlyDays, cell}
 use Rattle.sheet.specs.Learning.{WithNote}
 use Rattle.sheet.specs.Noted.{NoteHolds, Noted, NotesStand, Ready, Settled, ShowsEstimates, ShowsNothing}

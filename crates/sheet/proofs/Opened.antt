@@ -1,10 +1,10 @@
 -- A sheet that opens shows nothing. Assumes nothing.
 use Rattle.std.proofs.Common.{◌≡◌, ℕ, zero, suc, ◌+◌, ◌-◌, ◌*◌, ◌≤◌, List, [], ◌++◌, map, length, get_or, take, drop, replicate, None, vec_items, sym, refl, ap, ◌∙◌, subst}
-use Rattle.figure_laws.proofs.Lawfully.{figure_before}
-use Rattle.histories.specs.History.{History, Setting}
+use Rattle.rules.proofs.Lawfully.{figure_before}
+use Rattle.rules.specs.History.{History, Setting}
 use Rattle.ledger.proofs.Opened.{cleared_read, cleared_rest, zero_of}
-use Rattle.sheet_laws.proofs.CoveredTo.{covered_at_opening}
-use Rattle.sheet_laws.proofs.Rows.{cell_before}
+use Rattle.sheet.proofs.CoveredTo.{covered_at_opening}
+use Rattle.sheet.proofs.Rows.{cell_before}
 use Rattle.sheet.specs.Noted.{NoteHolds, Noted}
 use Rattle.sheet.specs.Told.{Stands}
 use Rattle.sheet.specs.declared.day_note.DayNote.TheVariants.{NothingKnown}

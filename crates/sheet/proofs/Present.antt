@@ -1,9 +1,9 @@
 -- How a point stands on a day, from what a sheet knows. Assumes nothing.
 use Rattle.std.proofs.Common.{◌≡◌, ℕ, ◌-◌, ◌<◌, ◌≤◌, Bool, true, false, cond, ◌&&◌, ltb, get_or, is_some, Some, None, sym, refl, ap, ◌∙◌}
 use Rattle.std.proofs.lemmas.Bool.{le-leb, lt-leb}
-use Rattle.histories.specs.Figures.{active, begun}
-use Rattle.histories.specs.History.{History, Setting, covering, enrolment_of}
-use Rattle.histories.specs.declared.entry.Enrolment.{Enrolment}
+use Rattle.rules.specs.Figures.{active, begun}
+use Rattle.rules.specs.History.{History, Setting, covering, enrolment_of}
+use Rattle.rules.specs.declared.entry.Enrolment.{Enrolment}
 use Rattle.ledger.specs.declared.state.Ledger.{Ledger}
 use Rattle.sheet.specs.Told.{Told, standing_of}
 use Rattle.sheet.specs.declared.standing.Standing.TheVariants.{Covered, Estimated, Absent}

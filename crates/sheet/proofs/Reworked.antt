@@ -4,26 +4,26 @@ use Rattle.std.proofs.lemmas.List.{get_or-set_other, get_or-set_same}
 use Rattle.std.proofs.lemmas.Bool.{and_from, and_left, and_parts, and_right, both_ways, cases_Bool, cases_eq, cases_lt, le-leb, le-ltb, lt-leb, lt-ltb, ltb-true}
 use Rattle.std.specs.Option.{option_map, option_or}
 use Rattle.std.specs.declared.alloc.Global.{Global}
-use Rattle.figure_laws.proofs.Balanced.{supplied_shows}
-use Rattle.figure_laws.proofs.Day.{share_same}
-use Rattle.figure_laws.proofs.Lawfully.{enrolment_moves}
-use Rattle.figure_laws.proofs.Local.{count_elsewhere, covering_elsewhere, not_covered, reading_elsewhere}
-use Rattle.figure_laws.specs.Days.{SameDay}
-use Rattle.histories.specs.Calls.{Lawful}
-use Rattle.histories.specs.Figures.{begun, generated, load, share_on, supplied}
-use Rattle.histories.specs.History.{History, Setting, covering, covers}
-use Rattle.histories.specs.Readings.{joined, some_reading}
-use Rattle.histories.specs.declared.entry.Enrolment.{Enrolment}
-use Rattle.histories.specs.declared.entry.Entry.TheVariants.{DegreeDaysEntered, Enrolled, ReadingTaken}
-use Rattle.histories.specs.declared.entry.Reading.{Reading}
+use Rattle.rules.proofs.Balanced.{supplied_shows}
+use Rattle.rules.proofs.Day.{share_same}
+use Rattle.rules.proofs.Lawfully.{enrolment_moves}
+use Rattle.rules.proofs.Local.{count_elsewhere, covering_elsewhere, not_covered, reading_elsewhere}
+use Rattle.rules.specs.Days.{SameDay}
+use Rattle.rules.specs.Calls.{Lawful}
+use Rattle.rules.specs.Figures.{begun, generated, load, share_on, supplied}
+use Rattle.rules.specs.History.{History, Setting, covering, covers}
+use Rattle.rules.specs.Readings.{joined, some_reading}
+use Rattle.rules.specs.declared.entry.Enrolment.{Enrolment}
+use Rattle.rules.specs.declared.entry.Entry.TheVariants.{DegreeDaysEntered, Enrolled, ReadingTaken}
+use Rattle.rules.specs.declared.entry.Reading.{Reading}
 use Rattle.ledger.specs.Told.{Follows}
 use Rattle.ledger.specs.declared.state.Ledger.{Ledger}
-use Rattle.reading_laws.proofs.LastCovering.{covering_held}
-use Rattle.sheet_laws.proofs.Bounds.{held_within}
-use Rattle.sheet_laws.proofs.CoveredTo.{covered_after_enrolment, covered_after_reading}
-use Rattle.sheet_laws.proofs.Entered.{entry_in}
-use Rattle.sheet_laws.specs.CoveredTo.{CoveredTo}
-use Rattle.sheet_laws.specs.LoadMoved.{LoadMoved}
+use Rattle.rules.proofs.LastCovering.{covering_held}
+use Rattle.rules.proofs.Bounds.{held_within}
+use Rattle.sheet.proofs.CoveredTo.{covered_after_enrolment, covered_after_reading}
+use Rattle.rules.proofs.Entered.{entry_in}
+use Rattle.sheet.specs.CoveredTo.{CoveredTo}
+use Rattle.rules.specs.LoadMoved.{LoadMoved}
 use Rattle.sheet.specs.Cells.{OnlyDays, cell}
 use Rattle.sheet.specs.Learning.{WithCover, WithLoad}
 use Rattle.sheet.specs.Noted.{Noted, NotesStand, Ready, Settled}

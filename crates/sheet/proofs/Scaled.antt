@@ -3,17 +3,17 @@ use Rattle.std.proofs.Common.{◌≡◌, ℕ, ◌+◌, ◌-◌, ◌*◌, ◌<◌
 use Rattle.std.proofs.lemmas.List.{get_or-set_other, get_or-set_same, length-map, map-set}
 use Rattle.std.proofs.lemmas.Bool.{and_from, cases_eq, cases_lt, cond-true, le-leb, le-ltb, lt-ltb}
 use Rattle.std.specs.Result.{IsOk}
-use Rattle.histories.specs.Figures.{exceeded}
-use Rattle.loads.specs.Loads.{largest_gate}
-use Rattle.refusals.specs.Answers.{AcceptedWhen}
-use Rattle.refusals.specs.declared.refusal.Refusal.{Refusal}
-use Rattle.sharing.specs.Kinds.{with_figure}
-use Rattle.sharing.specs.Laws.{length_shares}
-use Rattle.sharing.specs.Limits.{largest_estimate, largest_product}
-use Rattle.sharing.specs.Rows.{handed}
-use Rattle.sharing.specs.Sharing.{can_share, shares}
-use Rattle.sharing.specs.declared.estimated_point.EstimatedPoint.{EstimatedPoint}
-use Rattle.sheet_laws.proofs.Rows.{handed_figures}
+use Rattle.rules.specs.Figures.{exceeded}
+use Rattle.allocation.specs.Loads.{largest_gate}
+use Rattle.terms.specs.Answers.{AcceptedWhen}
+use Rattle.terms.specs.declared.refusal.Refusal.{Refusal}
+use Rattle.allocation.specs.Kinds.{with_figure}
+use Rattle.allocation.specs.Laws.{length_shares}
+use Rattle.allocation.specs.Limits.{largest_estimate, largest_product}
+use Rattle.allocation.specs.Rows.{handed}
+use Rattle.allocation.specs.Sharing.{can_share, shares}
+use Rattle.allocation.specs.declared.estimated_point.EstimatedPoint.{EstimatedPoint}
+use Rattle.sheet.proofs.Rows.{handed_figures}
 use Rattle.sheet.specs.Limits.{load_within}
 use Rattle.sheet.specs.declared.day_note.DayNote.TheVariants.{NothingKnown, NothingLeft}
 use Rattle.sheet.specs.Scaling.{estimates_of, figures_of, note_of, scaled}

@@ -4,18 +4,18 @@ use Rattle.std.proofs.lemmas.List.FromFn.{get_or-map-range_with_len, length-map-
 use Rattle.std.proofs.lemmas.List.{drop-map, ext_get_or, get_or-append_right, get_or-drop, get_or-map, get_or-set_other, get_or-set_same, get_or-take, get_or_append_left, length-drop, length-map, length-set, length-take-le, map-append, take-append-drop, take-map}
 use Rattle.std.proofs.lemmas.Bool.{and_from, cases_Bool, cases_eq, cases_lt, cond-false, cond-true, cond_both, eq-eqb, le-leb, le-ltb, lt-ltb, ne_eqb}
 use Rattle.std.specs.List.{range_with_len}
-use Rattle.sharing.specs.Kinds.{with_share}
-use Rattle.sharing.specs.Laws.{length_shares}
-use Rattle.sharing.specs.Limits.{largest_day_weight}
-use Rattle.sharing.specs.Rows.{handed}
-use Rattle.sharing.specs.Sharing.{can_share, shares}
-use Rattle.sharing.specs.declared.reading_day.ReadingDay.{ReadingDay}
-use Rattle.histories.specs.Figures.{weight, weights}
-use Rattle.histories.specs.History.{History, Setting, covers}
-use Rattle.histories.specs.declared.entry.Reading.{Reading}
+use Rattle.allocation.specs.Kinds.{with_share}
+use Rattle.allocation.specs.Laws.{length_shares}
+use Rattle.allocation.specs.Limits.{largest_day_weight}
+use Rattle.allocation.specs.Rows.{handed}
+use Rattle.allocation.specs.Sharing.{can_share, shares}
+use Rattle.allocation.specs.declared.reading_day.ReadingDay.{ReadingDay}
+use Rattle.rules.specs.Figures.{weight, weights}
+use Rattle.rules.specs.History.{History, Setting, covers}
+use Rattle.rules.specs.declared.entry.Reading.{Reading}
 use Rattle.ledger.specs.declared.state.Ledger.{Ledger}
-use Rattle.reading_laws.proofs.Spans.{covers_facts}
-use Rattle.sheet_laws.proofs.Rows.{cell_after, cell_apart, cell_before, handed_shares, handed_weights}
+use Rattle.rules.proofs.Spans.{covers_facts}
+use Rattle.sheet.proofs.Rows.{cell_after, cell_apart, cell_before, handed_shares, handed_weights}
 use Rattle.sheet.specs.Cells.{OnlyDays, cell}
 use Rattle.sheet.specs.Shares.{LiesIn, SharesShown}
 use Rattle.sheet.specs.Told.{Told}

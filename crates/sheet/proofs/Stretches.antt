@@ -1,7 +1,7 @@
 -- Changes to the figures of some days: what they leave, and one after the other. Assumes nothing.
 use Rattle.std.proofs.Common.{◌≡◌, ℕ, ◌+◌, ◌-◌, ◌*◌, ◌<◌, ◌≤◌, ◌⊎◌, get_or, drop, vec_items, sym, ap, ◌∙◌, subst, ⊎_elim, mul-le-mul_right, arith}
-use Rattle.histories.specs.History.{History, Setting}
-use Rattle.sheet_laws.proofs.Rows.{cell_after, cell_before, same_drop}
+use Rattle.rules.specs.History.{History, Setting}
+use Rattle.sheet.proofs.Rows.{cell_after, cell_before, same_drop}
 use Rattle.sheet.specs.Cells.{OnlyDays, cell}
 use Rattle.sheet.specs.Showing.{ShowsDay, ShowsSupplied}
 use Rattle.sheet.specs.declared.state.Sheet.{Sheet}

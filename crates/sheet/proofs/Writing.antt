@@ -1,7 +1,7 @@
 -- One figure of a sheet written anew. Assumes nothing.
 use Rattle.std.proofs.Common.{◌≡◌, ℕ, ◌+◌, ◌-◌, ◌*◌, ◌<◌, ◌≤◌, length, get_or, set, vec_items, vec_len, ap, ◌∙◌, subst, arith}
 use Rattle.std.proofs.lemmas.List.{get_or-set_other, get_or-set_same, length-set}
-use Rattle.sheet_laws.proofs.Rows.{cell_after, cell_apart, cell_before}
+use Rattle.sheet.proofs.Rows.{cell_after, cell_apart, cell_before}
 use Rattle.sheet.specs.Cells.{OnlyDays, cell}
 use Rattle.sheet.specs.declared.state.Sheet.{Sheet}
 

@@ -2,8 +2,8 @@
 use Rattle.std.specs.Prelude.{ℕ, Bool, ◌&&◌, Option, nat_le, nat_lt}
 use Rattle.std.specs.Option.{option_map}
 use Rattle.estimators.specs.Meaning.{Bounded, BoundedUnder}
-use Rattle.histories.specs.Figures as law
-use Rattle.histories.specs.History.{History, Setting}
+use Rattle.rules.specs.Figures as law
+use Rattle.rules.specs.History.{History, Setting}
 use Rattle.sheet.specs.declared.day_figures.DayFigures.{DayFigures}
 use Rattle.sheet.specs.declared.state.Sheet.{Sheet}
 

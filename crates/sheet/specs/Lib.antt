@@ -1,3 +1,6 @@
+pub mod CoveredTo
+pub mod Placed
+pub mod Rows
 pub mod Asking
 pub mod Cells
 pub mod Learning

@@ -1,6 +1,6 @@
 -- What a sheet can hold.
 use Rattle.std.specs.Prelude.{ℕ, Bool, true, Some, None, Option, nat_le}
-use Rattle.loads.specs.Loads.{largest_gate}
+use Rattle.allocation.specs.Loads.{largest_gate}
 
 -- the load of a day, if it has one, is at most the largest gate energy
 abbrev pub load_within : Option ℕ → Bool

@@ -1,7 +1,7 @@
 -- What a sheet notes of its days, so that most of those whose figures stand are not settled again.
 use Rattle.std.specs.Prelude.{◌≡◌, ℕ, ◌-◌, ◌^◌, ◌<◌, ◌≤◌, min, Bool, true, false, is_some, Some, None, Option, nat_le, slice_index_or}
-use Rattle.histories.specs.Figures.{estimate_counted, estimates_sum}
-use Rattle.histories.specs.History.{History, Setting, covering}
+use Rattle.rules.specs.Figures.{estimate_counted, estimates_sum}
+use Rattle.rules.specs.History.{History, Setting, covering}
 use Rattle.sheet.specs.Cells.{cell}
 use Rattle.sheet.specs.Showing.{ShowsDay, ShowsSupplied}
 use Rattle.sheet.specs.Sums.{counted_sum}

@@ -1,9 +1,9 @@
 -- The estimated points of a day, the figures that they are scaled to, and what is noted of the day then.
 use Rattle.std.specs.Prelude.{ℕ, ◌-◌, cond, List, map, sum, Option, nat_lt}
 use Rattle.std.specs.Option.{unwrap_or}
-use Rattle.histories.specs.Figures.{exceeded}
-use Rattle.sharing.specs.Sharing.{shares}
-use Rattle.sharing.specs.declared.estimated_point.EstimatedPoint.{EstimatedPoint}
+use Rattle.rules.specs.Figures.{exceeded}
+use Rattle.allocation.specs.Sharing.{shares}
+use Rattle.allocation.specs.declared.estimated_point.EstimatedPoint.{EstimatedPoint}
 use Rattle.sheet.specs.declared.day_note.DayNote.{DayNote}
 use Rattle.sheet.specs.declared.day_note.DayNote.TheVariants.{NothingKnown, NothingEstimated, EstimatesShown, NothingLeft}
 

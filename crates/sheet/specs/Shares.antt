@@ -1,9 +1,9 @@
 -- The shares of readings that a sheet shows.
 use Rattle.std.specs.Prelude.{◌≡◌, ℕ, ◌<◌, ◌≤◌, Bool, true, false, cond, ◌&&◌, is_some, Some, nat_le, nat_lt}
-use Rattle.histories.specs.Figures.{share_on}
-use Rattle.histories.specs.History.{History, Setting, covering, covers}
-use Rattle.histories.specs.Readings.{joined}
-use Rattle.histories.specs.declared.entry.Reading.{Reading}
+use Rattle.rules.specs.Figures.{share_on}
+use Rattle.rules.specs.History.{History, Setting, covering, covers}
+use Rattle.rules.specs.Readings.{joined}
+use Rattle.rules.specs.declared.entry.Reading.{Reading}
 use Rattle.sheet.specs.Cells.{cell}
 use Rattle.sheet.specs.declared.state.Sheet.{Sheet}
 

@@ -1,7 +1,7 @@
 -- What a sheet shows of a day.
 use Rattle.std.specs.Prelude.{◌≡◌, ℕ, ◌≤◌, Some}
-use Rattle.histories.specs.Figures.{figure, supplied}
-use Rattle.histories.specs.History.{History, Setting}
+use Rattle.rules.specs.Figures.{figure, supplied}
+use Rattle.rules.specs.History.{History, Setting}
 use Rattle.sheet.specs.Cells.{cell}
 use Rattle.sheet.specs.declared.state.Sheet.{Sheet}
 

@@ -1,11 +1,11 @@
 -- What a sheet knows of a history, and what it shows of it.
 use Rattle.std.specs.Prelude.{◌≡◌, ℕ, ◌+◌, ◌*◌, ◌<◌, cond, List, drop, is_some, None, vec_items, slice_index_or}
 use Rattle.estimators.specs.Meaning.{Meaning}
-use Rattle.histories.specs.Calls.{Lawful}
-use Rattle.histories.specs.Figures.{active, estimate, load}
-use Rattle.histories.specs.History.{History, Setting, covering}
+use Rattle.rules.specs.Calls.{Lawful}
+use Rattle.rules.specs.Figures.{active, estimate, load}
+use Rattle.rules.specs.History.{History, Setting, covering}
 use Rattle.ledger.specs.Told.{Follows}
-use Rattle.sheet_laws.specs.CoveredTo.{CoveredTo}
+use Rattle.sheet.specs.CoveredTo.{CoveredTo}
 use Rattle.ledger.specs.declared.state.Ledger.{Ledger}
 use Rattle.sheet.specs.Noted.{Noted}
 use Rattle.sheet.specs.Showing.{ShowsDay}

@@ -1,8 +1,8 @@
 -- Days by their weights, as readings are shared over them.
 use Rattle.std.specs.Prelude.{ℕ, List, map, Option}
 use Rattle.std.specs.Option.{unwrap_or}
-use Rattle.loads.specs.Loads.{weight}
-use Rattle.sharing.specs.declared.reading_day.ReadingDay.{ReadingDay}
+use Rattle.allocation.specs.Loads.{weight}
+use Rattle.allocation.specs.declared.reading_day.ReadingDay.{ReadingDay}
 
 -- the weights of some days, and the shares that they have taken
 abbrev pub weights_of : List ReadingDay → List ℕ

@@ -1,6 +1,6 @@
 ghost use Rattle.std.specs.Prelude.{◌≡◌, ℕ, ◌<◌, not, ◌&&◌, List, is_some, if◌then◌else◌};
-ghost use Rattle.histories.specs.Figures as law;
-ghost use Rattle.histories.specs.History.{History, Setting};
+ghost use Rattle.rules.specs.Figures as law;
+ghost use Rattle.rules.specs.History.{History, Setting};
 ghost use Rattle.sheet.specs.Asking.{Limited, day_account, in_sheet};
 ghost use Rattle.sheet.specs.Cells.{HasCell, HasDay, cell};
 ghost use Rattle.sheet.specs.Told.{EstimatesOn, Stands, Told};

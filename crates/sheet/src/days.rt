@@ -1,5 +1,5 @@
 ghost use Rattle.std.specs.Prelude.{◌≡◌, ℕ, ◌<◌, ◌≤◌};
-ghost use Rattle.histories.specs.History.{History, Setting};
+ghost use Rattle.rules.specs.History.{History, Setting};
 ghost use Rattle.sheet.specs.Cells.{OnlyDays};
 ghost use Rattle.sheet.specs.Noted.{NotesStand, Ready, Settled};
 ghost use Rattle.sheet.specs.Told.{Estimates, Told};

@@ -1,14 +1,14 @@
 ghost use Rattle.std.specs.Prelude.{◌≡◌, ◌<◌, ◌≤◌, min, max, IfSome, if◌then◌else◌, Option};
-ghost use Rattle.histories.specs.History.{History, Setting, covers};
-ghost use Rattle.histories.specs.declared.entry.Reading.{Reading};
+ghost use Rattle.rules.specs.History.{History, Setting, covers};
+ghost use Rattle.rules.specs.declared.entry.Reading.{Reading};
 ghost use Rattle.sheet.specs.Cells.{HasDay, OnlyDays};
 ghost use Rattle.sheet.specs.Shares.{LiesIn, SharedOver, lies_in};
 ghost use Rattle.sheet.specs.Told.{Told};
 
 use super::span::Span;
 use super::state::Sheet;
-use histories::Reading;
 use ledger::Ledger;
+use rules::Reading;
 
 // The days of a reading.
 impl From<Reading> for Span {

@@ -1,6 +1,6 @@
 ghost use Rattle.std.specs.Prelude.{◌≡◌, ◌-◌, ◌<◌, ◌≤◌, max, IfSome, length, replicate, slice_index_or};
-ghost use Rattle.histories.specs.Figures as law;
-ghost use Rattle.histories.specs.History.{History, Setting};
+ghost use Rattle.rules.specs.Figures as law;
+ghost use Rattle.rules.specs.History.{History, Setting};
 ghost use Rattle.ledger.specs.Told.{Follows};
 ghost use Rattle.sheet.specs.Cells.{HasDay, HasPoint};
 ghost use Rattle.sheet.specs.Learning.{WithCover, WithLoad, WithNote};
@@ -9,10 +9,9 @@ ghost use Rattle.sheet.specs.declared.day_note.DayNote.TheVariants.{NothingKnown
 
 use super::day_note::DayNote;
 use super::state::Sheet;
+use allocation::{ReadingDay, weight_of};
 use estimators::DAYS;
 use ledger::Ledger;
-use loads::weight_of;
-use sharing::ReadingDay;
 
 // A day with this load by its weight, without a share yet.
 fn weighed_by(load: Option<u64>) -> ReadingDay

@@ -11,6 +11,7 @@ mod joined;
 mod knowing;
 mod moving;
 mod open;
+mod place_laws;
 mod scaling;
 mod settling;
 mod shares;
@@ -22,6 +23,7 @@ mod state;
 mod sums;
 
 pub use day_figures::DayFigures;
+pub use place_laws::{coverage_reaches, places_hold_held_readings, rows_by_places};
 pub use sources::Sources;
 pub use standing::Standing;
 pub use state::Sheet;

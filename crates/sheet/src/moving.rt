@@ -1,16 +1,16 @@
 ghost use Rattle.std.specs.Prelude.{ℕ, ◌<◌, List, ◌∷◌};
-ghost use Rattle.histories.specs.Calls.{Lawful};
-ghost use Rattle.histories.specs.History.{History, Setting};
-ghost use Rattle.histories.specs.declared.entry.Entry.TheVariants.{DegreeDaysEntered, Enrolled, ReadingTaken};
+ghost use Rattle.rules.specs.Calls.{Lawful};
+ghost use Rattle.rules.specs.History.{History, Setting};
+ghost use Rattle.rules.specs.declared.entry.Entry.TheVariants.{DegreeDaysEntered, Enrolled, ReadingTaken};
 ghost use Rattle.ledger.specs.Told.{Follows};
-ghost use Rattle.sheet_laws.specs.LoadMoved.{LoadMoved};
+ghost use Rattle.rules.specs.LoadMoved.{LoadMoved};
 ghost use Rattle.sheet.specs.Told.{Estimates, Stands};
 
 use super::sources::Sources;
 use super::span::Span;
 use super::state::Sheet;
 use estimators::Estimator;
-use histories::{Enrolment, Reading};
+use rules::{Enrolment, Reading};
 
 impl Sheet {
     // Follows a new gate day or interval energy: the readings over its day are shared anew, and each day that they

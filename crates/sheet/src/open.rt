@@ -1,13 +1,13 @@
 ghost use Rattle.std.specs.Prelude.{◌≡◌, ◌*◌, ◌≤◌, [], ◌++◌, map, take, drop, is_ok, vec_len, MatchResult};
-ghost use Rattle.histories.specs.History.{Setting};
+ghost use Rattle.rules.specs.History.{Setting};
 ghost use Rattle.sheet.specs.Opened.{opens};
 ghost use Rattle.sheet.specs.Told.{Stands};
 
 use super::day_note::DayNote;
 use super::state::Sheet;
+use allocation::ReadingDay;
 use estimators::{DAYS, POINTS};
 use ledger::clear_front;
-use sharing::ReadingDay;
 
 // A day without a load, by its weight.
 const UNLOADED: ReadingDay = ReadingDay {

@@ -3,7 +3,7 @@ ghost use Rattle.sheet.specs.Scaling.{estimates_of, figures_of, note_of, scaled}
 ghost use Rattle.sheet.specs.declared.day_note.DayNote.TheVariants.{NothingKnown, NothingLeft};
 
 use super::day_note::DayNote;
-use sharing::{EstimatedPoint, share};
+use allocation::{EstimatedPoint, share};
 
 // What the estimates of some points come to.
 fn total_of(rows: &[EstimatedPoint]) -> u64

@@ -1,7 +1,7 @@
 ghost use Rattle.std.specs.Prelude.{◌≡◌, ℕ, ◌+◌, ◌-◌, ◌^◌, ◌<◌, ◌≤◌, min, true, length, is_some, IfSome, if◌then◌else◌, slice_index};
 ghost use Rattle.std.specs.Option.{unwrap_or};
-ghost use Rattle.histories.specs.Figures as law;
-ghost use Rattle.histories.specs.History.{History, Setting, covering};
+ghost use Rattle.rules.specs.Figures as law;
+ghost use Rattle.rules.specs.History.{History, Setting, covering};
 ghost use Rattle.ledger.specs.declared.state.Ledger.{Ledger};
 ghost use Rattle.sheet.specs.Cells.{HasCell, HasDay, OnlyDays, cell};
 ghost use Rattle.sheet.specs.Noted.{NotesStand, Ready, Settled, stands_by_note};
@@ -15,9 +15,9 @@ use super::scaling::scale;
 use super::sources::Sources;
 use super::standing::Standing;
 use super::state::Sheet;
+use allocation::EstimatedPoint;
 use estimators::{Estimator, POINTS};
 use ledger::Ledger;
-use sharing::EstimatedPoint;
 
 // A point that counts as nothing.
 const NOTHING: EstimatedPoint = EstimatedPoint {

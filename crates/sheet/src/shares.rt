@@ -1,17 +1,17 @@
 ghost use Rattle.std.specs.Prelude.{◌≡◌, ℕ, ◌≤◌, true, if◌then◌else◌, slice_index};
-ghost use Rattle.histories.specs.Figures as law;
-ghost use Rattle.histories.specs.History.{History, Setting, covers};
+ghost use Rattle.rules.specs.Figures as law;
+ghost use Rattle.rules.specs.History.{History, Setting, covers};
 ghost use Rattle.ledger.specs.declared.state.Ledger.{Ledger};
-ghost use Rattle.sharing.specs.Limits.{largest_day_weight};
-ghost use Rattle.sharing.specs.Sharing.{can_share};
+ghost use Rattle.allocation.specs.Limits.{largest_day_weight};
+ghost use Rattle.allocation.specs.Sharing.{can_share};
 ghost use Rattle.sheet.specs.Cells.{OnlyDays, cell};
 ghost use Rattle.sheet.specs.Shares.{LiesIn, SharesShown};
 ghost use Rattle.sheet.specs.Told.{Told};
 ghost use Rattle.sheet.specs.Weights.{shares_of};
 
 use super::state::Sheet;
-use histories::Reading;
-use sharing::share;
+use allocation::share;
+use rules::Reading;
 
 impl Sheet {
     // Shows the shares that the days of a reading have taken.

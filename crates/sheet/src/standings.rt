@@ -1,6 +1,6 @@
 ghost use Rattle.std.specs.Prelude.{◌≡◌, is_some};
-ghost use Rattle.histories.specs.Figures as law;
-ghost use Rattle.histories.specs.History.{History, Setting, covering, enrolment_of};
+ghost use Rattle.rules.specs.Figures as law;
+ghost use Rattle.rules.specs.History.{History, Setting, covering, enrolment_of};
 ghost use Rattle.sheet.specs.Cells.{HasPoint};
 ghost use Rattle.sheet.specs.Told.{Told, standing_of};
 

@@ -4,8 +4,8 @@ ghost use Rattle.sheet.specs.Limits.{load_within};
 ghost use Rattle.sheet.specs.Weights.{weight_by, weights_of};
 
 use super::day_note::DayNote;
+use allocation::ReadingDay;
 use estimators::{DAYS, POINTS};
-use sharing::ReadingDay;
 
 // The figures, day by day and by point. Beside them what they are worked out from again and again: the load and the weight of each day,
 // of each point the day before which its days are covered, from its start day on, and what is noted of each day.

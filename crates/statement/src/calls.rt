@@ -1,8 +1,8 @@
 // What the book is told: in July, and before each stage but the first.
 use super::month::{DAYS, FIRST, LAST};
-use histories::{Call, Delivery};
-use readings::ReadingType;
+use rules::{Call, Delivery};
 use std::alloc::{AllocError, Global};
+use terms::ReadingType;
 
 // The three retailers.
 pub const NORTHERN: u32 = 4;

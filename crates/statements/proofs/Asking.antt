@@ -4,13 +4,13 @@ use Rattle.std.specs.Result.{MatchResult}
 use Rattle.std.proofs.lemmas.Bool.{and_from, false≢true, le-leb}
 use Rattle.calendar.proofs.After.{date_numbered_back}
 use Rattle.calendar.specs.Digits.{Numbered, date_numbered, is_date}
-use Rattle.histories.specs.Calls.{between, in_book, named_by, place, retailers}
-use Rattle.histories.specs.Figures.{load, remainder, retailer_sum}
-use Rattle.histories.specs.History.{History, Setting}
-use Rattle.histories.specs.declared.call.Call.TheVariants.{AskDay, AskRetailer}
+use Rattle.rules.specs.Calls.{between, in_book, named_by, place, retailers}
+use Rattle.rules.specs.Figures.{load, remainder, retailer_sum}
+use Rattle.rules.specs.History.{History, Setting}
+use Rattle.rules.specs.declared.call.Call.TheVariants.{AskDay, AskRetailer}
 use Rattle.ledger.proofs.Asked.{day_refused}
-use Rattle.refusals.specs.Numbers.{day_named, number_of}
-use Rattle.refusals.specs.declared.refusal.Refusal.{Refusal}
+use Rattle.terms.specs.Numbers.{day_named, number_of}
+use Rattle.terms.specs.declared.refusal.Refusal.{Refusal}
 use Rattle.sheet.specs.Asking.{account}
 use Rattle.sheet.specs.declared.day_figures.DayFigures.{DayFigures}
 use Rattle.book.specs.Replies.{Reply, answer, day_is, refused, sum_is, told, unless_refused}

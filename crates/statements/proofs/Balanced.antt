@@ -1,12 +1,12 @@
 -- Why the sums of a span balance. Assumes nothing.
 use Rattle.std.proofs.Common.{◌≡◌, ℕ, ◌+◌, List, map, sum, unwrap_or, sym, ap, ◌∙◌}
 use Rattle.std.specs.List.{range_with_len}
-use Rattle.histories.specs.Calls.{Lawful, place, retailers}
-use Rattle.histories.specs.Figures.{excess, load, retailer_sum}
-use Rattle.histories.specs.History.{History, Setting}
-use Rattle.figure_laws.proofs.Over.{sum_added, sum_swap}
-use Rattle.figure_laws.proofs.Retailers.{retailers_balance}
-use Rattle.figure_laws.specs.Balance.{retailers_sum}
+use Rattle.rules.specs.Calls.{Lawful, place, retailers}
+use Rattle.rules.specs.Figures.{excess, load, retailer_sum}
+use Rattle.rules.specs.History.{History, Setting}
+use Rattle.rules.proofs.Over.{sum_added, sum_swap}
+use Rattle.rules.proofs.Retailers.{retailers_balance}
+use Rattle.rules.specs.Balance.{retailers_sum}
 use Rattle.statements.specs.Draws.{Loaded}
 use Rattle.statements.specs.Spans.{day_count, sum_over}
 use Rattle.statements.specs.Sums.{excess_over, load_over, remainder_on, remainder_over, retailers_over}

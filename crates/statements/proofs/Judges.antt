@@ -4,10 +4,10 @@ use Rattle.std.specs.List.{range_with_len}
 use Rattle.std.specs.Option.{option_or}
 use Rattle.std.specs.Result.{IsOkAnd}
 use Rattle.std.proofs.lemmas.Bool.{cond-true, cond-false, false≢true}
-use Rattle.histories.specs.Calls.{covered_named, first_without_load, place}
-use Rattle.histories.specs.History.{History, Setting}
-use Rattle.refusals.specs.Numbers.{day_named, number_of}
-use Rattle.refusals.specs.declared.refusal.Refusal.{Refusal}
+use Rattle.rules.specs.Calls.{covered_named, first_without_load, place}
+use Rattle.rules.specs.History.{History, Setting}
+use Rattle.terms.specs.Numbers.{day_named, number_of}
+use Rattle.terms.specs.declared.refusal.Refusal.{Refusal}
 use Rattle.statements.specs.Draws.{Loaded, draw_named, draw_refusal, unloaded_named, unloaded_refusal}
 use Rattle.statements.specs.Judged.{Judged}
 use Rattle.statements.specs.Spans.{DaysOf, backwards, days_of, no_such_date, outside_book, span_refusal}

@@ -2,9 +2,9 @@
 use Rattle.std.proofs.Common.{◌≡◌, ℕ, ◌+◌, ◌-◌, ◌≤◌, cond, Some, None, Option, unwrap_or, refl, arith}
 use Rattle.std.proofs.lemmas.Bool.{cond_both}
 use Rattle.estimators.specs.Meaning.{Meaning}
-use Rattle.histories.specs.Figures.{belongs, estimate, figure, figures_sum, load, retailer_sum, under_count}
-use Rattle.histories.specs.History.{History, Setting, count_of, enrolment_of}
-use Rattle.sheet_laws.proofs.Bounds.{figure_bounded, load_bounded, sum_bounded}
+use Rattle.rules.specs.Figures.{belongs, estimate, figure, figures_sum, load, retailer_sum, under_count}
+use Rattle.rules.specs.History.{History, Setting, count_of, enrolment_of}
+use Rattle.rules.proofs.Bounds.{figure_bounded, load_bounded, sum_bounded}
 use Rattle.book.specs.Follows.{Beyond, Follows}
 use Rattle.book.specs.declared.book.Book.{Book}
 use Rattle.statements.specs.Limits.{largest_sum}

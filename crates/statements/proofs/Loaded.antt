@@ -2,9 +2,9 @@
 use Rattle.std.proofs.Common.{◌≡◌, ℕ, zero, suc, ◌+◌, ◌<◌, Bool, true, false, cond, is_some, Some, None, Option, sym, refl, ap, ◌∙◌, arith}
 use Rattle.std.specs.List.{range_with_len}
 use Rattle.std.proofs.lemmas.Bool.{cond-false, cond-true, false≢true}
-use Rattle.histories.specs.Calls.{first_without_load}
-use Rattle.histories.specs.Figures.{load}
-use Rattle.histories.specs.History.{History, Setting}
+use Rattle.rules.specs.Calls.{first_without_load}
+use Rattle.rules.specs.Figures.{load}
+use Rattle.rules.specs.History.{History, Setting}
 
 passed : (b : Bool) (o : Option ℕ) (d : ℕ) → cond b o (Some d) ≡ None → (b ≡ true) × (o ≡ None)
 passed true o d e = (refl, e)

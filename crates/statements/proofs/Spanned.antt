@@ -5,11 +5,11 @@ use Rattle.std.specs.Option.{option_or}
 use Rattle.calendar.specs.Digits.{Numbered, day_number_of, is_date}
 use Rattle.calendar.specs.Gregorian.{days_in_all}
 use Rattle.calendar.proofs.Order.{day_number_below}
-use Rattle.histories.specs.Calls.{first_holding, first_without_load, in_book, place}
-use Rattle.histories.specs.History.{History, Setting}
-use Rattle.refusals.specs.Numbers.{day_named, number_of}
-use Rattle.refusals.specs.declared.refusal.Refusal.{Refusal}
-use Rattle.refusals.specs.declared.refusal.Refusal.TheVariants.{MalformedLine, OutOfTurn, BeyondLimits, NoSuchDate, OutsideBook, NegativeEnergy, PointNotEnrolled, PointEnrolledAlready, StartIsNoMark, EndNotAllowed, CoveredDayWithoutLoad, SoftOverFirm, ReadingPlacesFull, AskedDayWithoutLoad, ListTooShort}
+use Rattle.rules.specs.Calls.{first_holding, first_without_load, in_book, place}
+use Rattle.rules.specs.History.{History, Setting}
+use Rattle.terms.specs.Numbers.{day_named, number_of}
+use Rattle.terms.specs.declared.refusal.Refusal.{Refusal}
+use Rattle.terms.specs.declared.refusal.Refusal.TheVariants.{MalformedLine, OutOfTurn, BeyondLimits, NoSuchDate, OutsideBook, NegativeEnergy, PointNotEnrolled, PointEnrolledAlready, StartIsNoMark, EndNotAllowed, CoveredDayWithoutLoad, SoftOverFirm, ReadingPlacesFull, AskedDayWithoutLoad, ListTooShort}
 use Rattle.statements.specs.Draws.{draw_refusal}
 use Rattle.statements.specs.Spans.{date_refusal, day_count, days_of, span_refusal}
 use Rattle.statements.specs.declared.span.Span.{Span}

@@ -2,9 +2,9 @@
 use Rattle.std.specs.Prelude.{◌≡◌, ℕ, ◌+◌, ◌<◌, Some, Ok, Result}
 use Rattle.calendar.specs.Digits.{Numbered}
 use Rattle.estimators.specs.Meaning.{Meaning}
-use Rattle.histories.specs.Figures.{load, remainder}
-use Rattle.histories.specs.History.{History, Setting}
-use Rattle.refusals.specs.declared.refusal.Refusal.{Refusal}
+use Rattle.rules.specs.Figures.{load, remainder}
+use Rattle.rules.specs.History.{History, Setting}
+use Rattle.terms.specs.declared.refusal.Refusal.{Refusal}
 use Rattle.book.specs.Follows.{Beyond, Follows}
 use Rattle.book.specs.declared.book.Book.{Book}
 

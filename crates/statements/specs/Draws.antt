@@ -2,10 +2,10 @@
 use Rattle.std.specs.Prelude.{◌≡◌, ℕ, cond, [], ◌∷◌, is_some, Some, None, Ok, Err, Option, Result, ◌==◌, nat_lt}
 use Rattle.std.specs.List.{range_with_len}
 use Rattle.estimators.specs.Meaning.{Meaning}
-use Rattle.histories.specs.Calls.{covered_named, first_holding, first_without_load}
-use Rattle.histories.specs.History.{History, Setting}
-use Rattle.refusals.specs.Numbers.{number_of, day_named}
-use Rattle.refusals.specs.declared.refusal.Refusal.{Refusal}
+use Rattle.rules.specs.Calls.{covered_named, first_holding, first_without_load}
+use Rattle.rules.specs.History.{History, Setting}
+use Rattle.terms.specs.Numbers.{number_of, day_named}
+use Rattle.terms.specs.declared.refusal.Refusal.{Refusal}
 use Rattle.book.specs.Follows.{Beyond, Follows}
 use Rattle.book.specs.declared.book.Book.{Book}
 use Rattle.statements.specs.Spans.{backwards, days_of, no_such_date, outside_book}

@@ -2,8 +2,8 @@
 use Rattle.std.specs.Prelude.{◌≡◌, ℕ, ◌+◌, ◌*◌, ◌<◌, ◌≤◌, true, ℤ, pos, ◌+ℤ◌, List, [], ◌∷◌, drop, is_some, None, slice_index_or, nat_lt}
 use Rattle.std.specs.Option.{option_or}
 use Rattle.calendar.specs.Digits.{is_date}
-use Rattle.histories.specs.Calls.{Lawful, first_holding, first_without_load, place}
-use Rattle.histories.specs.History.{History, Setting}
+use Rattle.rules.specs.Calls.{Lawful, first_holding, first_without_load, place}
+use Rattle.rules.specs.History.{History, Setting}
 use Rattle.statements.specs.Draws.{Loaded, draw_refusal}
 use Rattle.statements.specs.Lists.{adjustment_at, later_list, shown_at}
 use Rattle.statements.specs.Spans.{day_count, days_of, span_refusal, sum_over}

@@ -2,8 +2,8 @@
 use Rattle.std.specs.Prelude.{◌≡◌, ℕ, ◌+◌, ◌-◌, ◌≤◌, Bool, not, ◌&&◌, List, [], ◌∷◌, map, None, sum, Option, nat_lt}
 use Rattle.std.specs.List.{range_with_len}
 use Rattle.calendar.specs.Digits.{day_number_of, is_date}
-use Rattle.histories.specs.Calls.{first_holding, in_book, place}
-use Rattle.histories.specs.History.{Setting}
+use Rattle.rules.specs.Calls.{first_holding, in_book, place}
+use Rattle.rules.specs.History.{Setting}
 use Rattle.statements.specs.declared.days.Days.{Days}
 use Rattle.statements.specs.declared.span.Span.{Span}
 

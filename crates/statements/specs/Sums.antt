@@ -2,9 +2,9 @@
 use Rattle.std.specs.Prelude.{◌≡◌, ℕ, ◌-◌, ◌≤◌, cond, map, sum, nat_lt, slice_index}
 use Rattle.std.specs.List.{range_with_len}
 use Rattle.std.specs.Option.{unwrap_or}
-use Rattle.histories.specs.Calls.{retailers}
-use Rattle.histories.specs.Figures.{excess, load, remainder, retailer_sum}
-use Rattle.histories.specs.History.{History, Setting}
+use Rattle.rules.specs.Calls.{retailers}
+use Rattle.rules.specs.Figures.{excess, load, remainder, retailer_sum}
+use Rattle.rules.specs.History.{History, Setting}
 use Rattle.statements.specs.Spans.{sum_over_span}
 use Rattle.statements.specs.declared.span.Span.{Span}
 use Rattle.statements.specs.declared.sums.Sums.{Sums}

@@ -1,5 +1,5 @@
 ghost use Rattle.std.specs.Prelude.{◌≡◌, length, ◌≤◌, IfOk, OnErr, OnOk};
-ghost use Rattle.histories.specs.History.{History, Setting};
+ghost use Rattle.rules.specs.History.{History, Setting};
 ghost use Rattle.book.specs.Follows.{Beyond, Follows};
 ghost use Rattle.statements.specs.Draws.{Drawing, draw_named, draw_refusal};
 ghost use Rattle.statements.specs.Judged.{Judged};
@@ -13,7 +13,7 @@ use super::summing::sums_over;
 use super::sums::{SUMS, Sums};
 use book::Book;
 use estimators::Weather;
-use refusals::Refusal;
+use terms::Refusal;
 
 // The sums of a span, for a list of so many places of which so many are wanted.
 fn sums_of<E: Weather>(

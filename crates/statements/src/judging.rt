@@ -1,6 +1,6 @@
 ghost use Rattle.std.specs.Prelude.{◌≡◌, ℕ, ◌+◌, ◌≤◌, OnOk};
 ghost use Rattle.estimators.specs.Meaning.{Meaning};
-ghost use Rattle.histories.specs.History.{History, Setting};
+ghost use Rattle.rules.specs.History.{History, Setting};
 ghost use Rattle.book.specs.Follows.{Beyond, Follows};
 ghost use Rattle.statements.specs.Draws.{Loaded, draw_named, draw_refusal, unloaded_named, unloaded_refusal};
 ghost use Rattle.statements.specs.Judged.{Judged};
@@ -11,7 +11,7 @@ use super::span::Span;
 use book::Book;
 use calendar::{date_of_day_number, day_number_of};
 use estimators::Weather;
-use refusals::Refusal;
+use terms::Refusal;
 
 // A book answers what a retailer's sum on a day is, unless there is no such date or it lies outside the book.
 const ANY_RETAILER: u32 = 1;

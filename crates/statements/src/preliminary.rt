@@ -9,7 +9,7 @@ use super::span::Span;
 use super::statement::Statement;
 use book::Book;
 use estimators::Weather;
-use refusals::Refusal;
+use terms::Refusal;
 
 // The first stage of a span's settlement. No stage is `Clone`, `Copy` or `Drop`: each is spent once, by the next or by its
 // settlement.

@@ -1,4 +1,4 @@
-use refusals::Refusal;
+use terms::Refusal;
 
 // Why the next stage was not drawn, and the stage as it was.
 // No `Drop`: the stage in it may not be forgotten.

@@ -2,8 +2,8 @@ ghost use Rattle.std.specs.Prelude.{◌≡◌, ℕ, ◌+◌, ◌<◌, ◌≤◌,
 ghost use Rattle.std.specs.Result.{IsOkAnd};
 ghost use Rattle.calendar.specs.Digits.{Numbered};
 ghost use Rattle.estimators.specs.Meaning.{Meaning};
-ghost use Rattle.refusals.specs.declared.refusal.Refusal.{Refusal};
-ghost use Rattle.histories.specs.History.{History, Setting};
+ghost use Rattle.terms.specs.declared.refusal.Refusal.{Refusal};
+ghost use Rattle.rules.specs.History.{History, Setting};
 ghost use Rattle.book.specs.Follows.{Beyond, Follows};
 ghost use Rattle.statements.specs.Asked.{TellsRemainder};
 ghost use Rattle.statements.specs.Draws.{Loaded};
@@ -17,7 +17,7 @@ use super::sums::{LARGEST_SUM, RETAILERS, Sums};
 use book::Book;
 use calendar::date_of_day_number;
 use estimators::Weather;
-use refusals::Refusal;
+use terms::Refusal;
 
 // What some days come to, each as it is asked by its date.
 pub(crate) fn sum_over<F: Fn(u32) -> Result<u64, Refusal>>(

@@ -1,12 +1,12 @@
 // A book of four days and three points, told more and more, and the lists that stages are drawn into.
 use book::{Answer, Book, Lists, OpeningRequest};
-use by_weather::{ByWeather, Factors};
-use histories::{Call, Delivery};
-use readings::ReadingType;
+use estimates::{ByWeather, Factors};
+use rules::{Call, Delivery};
 use statements::{SUMS, Span};
 use std::alloc::Global;
 use std::process::Abort;
 use std::test::Fail;
+use terms::ReadingType;
 
 pub(crate) const FIRST: u32 = 20240701;
 

@@ -2,10 +2,10 @@
 use super::areas::{
     Area, FIRST, IDLE, LAST, WHOLE_BOOK, area_told, begins, begun, complete, places,
 };
-use refusals::Refusal;
 use statements::{Final, Preliminary, Revised, Span, Undrawn};
 use std::process::Abort;
 use std::test::Fail;
+use terms::Refusal;
 
 // The refusal of a preliminary. The list stays as it was.
 fn refusal(

@@ -5,11 +5,11 @@ use Rattle.std.specs.Option.{option_map, option_or}
 use Rattle.std.specs.List.{list_all, prefix_len}
 use Rattle.std.proofs.lemmas.Bool.{ltb-false}
 use Rattle.std.proofs.lemmas.List.Sums.{prefix_len_passes, list_all-from_AllPass}
-use Rattle.refusals.specs.Answers.{Answers}
-use Rattle.refusals.specs.declared.refusal.Refusal.{Refusal}
+use Rattle.terms.specs.Answers.{Answers}
+use Rattle.terms.specs.declared.refusal.Refusal.{Refusal}
 use Rattle.calendar.specs.Digits.{is_date}
-use Rattle.degree_days.specs.declared.observations.Observations.{Observations}
-use Rattle.degree_days.specs.Counts.{temperature_within, wind_within, sunshine_within, day_within, within}
+use Rattle.estimates.specs.declared.observations.Observations.{Observations}
+use Rattle.estimates.specs.Counts.{temperature_within, wind_within, sunshine_within, day_within, within}
 use Rattle.weather_day.specs.Words.{first_not, first_beyond, first_fault}
 use Rattle.weather_day.specs.Reckoning.{place_of, unless}
 use Rattle.weather_day.specs.declared.word.Word.{Word}

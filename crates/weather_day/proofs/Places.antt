@@ -1,12 +1,12 @@
 -- The place of a date in its year, from its eight digits.
 use Rattle.std.proofs.Common.{◌≡◌, ℕ, Bool, true, false, cond, T, leb, Ok, Err, Result, sym, refl, ap, ◌∙◌, arith, le→leb}
-use Rattle.refusals.specs.Answers.{AnswersBy}
+use Rattle.terms.specs.Answers.{AnswersBy}
 use Rattle.calendar.specs.Dates.{digits_of, place_in_year}
 use Rattle.calendar.specs.declared.date.Date.{Date}
 use Rattle.calendar.proofs.Days.{dated}
 use Rattle.calendar.proofs.Numbers.{placed}
 use Rattle.calendar.proofs.Shown.{year_of_digits, month_of_digits, day_of_digits}
-use Rattle.degree_days.specs.Counts.{day_within}
+use Rattle.estimates.specs.Counts.{day_within}
 use Rattle.estimators.proofs.Tables.{both}
 use Rattle.weather_day.specs.Reckoning.{place_of}
 use Rattle.weather_day.specs.declared.word.Word.{Word}

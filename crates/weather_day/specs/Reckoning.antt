@@ -2,8 +2,8 @@
 use Rattle.std.specs.Prelude.{ℕ, Some, None, Ok, Err, Option, Result}
 use Rattle.calendar.specs.Gregorian.{day_of_year}
 use Rattle.calendar.specs.Digits.{year_shown, month_shown, day_shown}
-use Rattle.degree_days.specs.Counts.{terms_of, degree_days}
-use Rattle.degree_days.specs.declared.observations.Observations.{Observations}
+use Rattle.estimates.specs.Counts.{terms_of, degree_days}
+use Rattle.estimates.specs.declared.observations.Observations.{Observations}
 use Rattle.weather_day.specs.declared.reckoning.Reckoning.{Reckoning}
 use Rattle.weather_day.specs.declared.word.Word.{Word}
 

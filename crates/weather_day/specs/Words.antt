@@ -2,8 +2,8 @@
 use Rattle.std.specs.Prelude.{ℕ, ◌+◌, Bool, cond, not, List, Some, None, Option, position}
 use Rattle.std.specs.Option.{option_map, option_or}
 use Rattle.calendar.specs.Digits.{is_date}
-use Rattle.degree_days.specs.Counts.{temperature_within, wind_within, sunshine_within}
-use Rattle.degree_days.specs.declared.observations.Observations.{Observations}
+use Rattle.estimates.specs.Counts.{temperature_within, wind_within, sunshine_within}
+use Rattle.estimates.specs.declared.observations.Observations.{Observations}
 use Rattle.weather_day.specs.declared.word.Word.{Word}
 use Rattle.weather_day.specs.declared.word.Word.TheVariants.{Date, Temperature, Wind, Sunshine}
 

@@ -1,12 +1,12 @@
 ghost use Rattle.std.specs.Prelude.{◌≡◌, T, IfOk, if◌then◌else◌, Result};
 ghost use Rattle.calendar.specs.Digits.{is_date};
-ghost use Rattle.degree_days.specs.Counts.{day_within};
+ghost use Rattle.estimates.specs.Counts.{day_within};
 ghost use Rattle.weather_day.specs.Words.{first_beyond, first_fault};
 ghost use Rattle.weather_day.specs.Reckoning.{place_of, reckoned, unless};
 
 use super::word::Word;
 use calendar::Date;
-use degree_days::{Observations, Terms, temperature_within, wind_within};
+use estimates::{Observations, Terms, temperature_within, wind_within};
 
 // The degree days of a day: their terms, and the count in hundredths.
 #[derive(Clone, Copy, PartialEq, Eq, Debug)]

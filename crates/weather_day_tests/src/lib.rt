@@ -3,7 +3,7 @@
 
 #[cfg(test)]
 mod tests {
-    use degree_days::Observations;
+    use estimates::Observations;
     use std::test::Fail;
     use weather_day::{Word, reckon};
 

@@ -4,7 +4,7 @@
 ghost use Rattle.worked_figures.specs.Figures.{WorkedFigures};
 
 // The figures hold; there is nothing to compute.
-#[tactic(auto, unfolding(sharing::specs::Sharing::part, sharing::specs::Sharing::share_at, sharing::specs::Sharing::shares))]
+#[tactic(auto, unfolding(allocation::specs::Sharing::part, allocation::specs::Sharing::share_at, allocation::specs::Sharing::shares))]
 pub fn worked_figures_hold()
     ensures { WorkedFigures }
 {}

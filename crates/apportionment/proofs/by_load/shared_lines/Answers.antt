@@ -1,6 +1,6 @@
 use Rattle.std.proofs.Common.{refl, ap, ◌∙◌}
 use Rattle.std.proofs.lemmas.Bool.{both_ways}
-use Rattle.refusals.specs.Answers.{refused_since}
+use Rattle.terms.specs.Answers.{refused_since}
 use Rattle.apportionment.specs.Days.{lines_of}
 use Rattle.apportionment.proofs.Days.{always_shared, lines_of_shared}
 use Rattle.apportionment.proofs.by_load.shared_lines.Goals as goal

@@ -3,7 +3,7 @@ use Rattle.std.proofs.lemmas.Bool.{and_parts, leb-true}
 use mir.Facts.{Fits-below}
 use Rattle.calendar.proofs.Order.{day_number_below}
 use Rattle.calendar.specs.Digits.{day_number_of, is_date}
-use Rattle.refusals.specs.Answers.{accepted_since}
+use Rattle.terms.specs.Answers.{accepted_since}
 use Rattle.ledger.proofs.open.judge_opening.Goals as goal
 
 pub overflow_add-first : goal.overflow_add-first

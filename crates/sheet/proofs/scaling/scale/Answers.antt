@@ -1,6 +1,6 @@
 use Rattle.std.proofs.Common.{◌≡◌, ℕ, ◌+◌, ◌-◌, ◌<◌, ◌≤◌, IfSome, sum, Option, unwrap_or, sym, ap, ◌∙◌, subst, arith}
-use Rattle.histories.specs.Figures.{exceeded}
-use Rattle.sharing.specs.Sharing.{shares}
+use Rattle.rules.specs.Figures.{exceeded}
+use Rattle.allocation.specs.Sharing.{shares}
 use Rattle.sheet.specs.Scaling.{estimates_of}
 use Rattle.sheet.proofs.Scaled.{accepted_ok, exceeds, left_shareable, noted_scaled, scaled_by, shared_figures}
 use Rattle.sheet.proofs.scaling.scale.Goals as goal

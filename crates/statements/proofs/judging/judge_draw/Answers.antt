@@ -1,7 +1,7 @@
 use Rattle.std.proofs.Common.{refl, arith}
 use Rattle.std.proofs.lemmas.Bool.{le-ltb, lt-ltb}
 use Rattle.std.proofs.lemmas.Result.{err_from_is_err_and}
-use Rattle.histories.specs.Calls.{place}
+use Rattle.rules.specs.Calls.{place}
 use Rattle.statements.proofs.Judges.{all_loaded, by_list, refused_by_load, refused_by_span}
 use Rattle.statements.proofs.judging.judge_draw.Goals as goal
 

@@ -2,9 +2,9 @@ use Rattle.std.proofs.Common.{◌≡◌, ℕ, ◌+◌, ◌<◌, cond, Some, None
 use borrow.Author.Count.{below_more}
 use Rattle.std.proofs.lemmas.Result.{err_from_is_err_and}
 use Rattle.calendar.specs.Digits.{Numbered}
-use Rattle.histories.specs.Calls.{covered_named}
-use Rattle.histories.specs.Figures.{load}
-use Rattle.refusals.specs.Answers.{accepted_since}
+use Rattle.rules.specs.Calls.{covered_named}
+use Rattle.rules.specs.Figures.{load}
+use Rattle.terms.specs.Answers.{accepted_since}
 use Rattle.statements.proofs.Asking.{day_given}
 use Rattle.statements.proofs.Loaded.{first_unloaded, none_unloaded}
 use Rattle.statements.proofs.judging.judge_loads.Goals as goal

@@ -1,6 +1,6 @@
 use Rattle.std.proofs.Common.{◌≡◌, ℕ, ◌+◌, ◌<◌, ◌≤◌, true, is_some}
-use Rattle.histories.specs.Figures.{load}
-use Rattle.histories.specs.History.{History, Setting}
+use Rattle.rules.specs.Figures.{load}
+use Rattle.rules.specs.History.{History, Setting}
 use Rattle.book.specs.Follows.{Beyond, Follows}
 use Rattle.statements.proofs.judging.judge_loads.Given as goal
 

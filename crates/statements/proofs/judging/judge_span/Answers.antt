@@ -1,7 +1,7 @@
 use Rattle.std.proofs.Common.{◌≡◌, ◌<◌, ◌≤◌, Some, sym, refl, ap, ◌∙◌, arith}
 use Rattle.std.proofs.lemmas.Result.{err_from_is_err_and}
 use Rattle.calendar.specs.Digits.{day_number_of, is_date}
-use Rattle.refusals.specs.Answers.{accepted_since, refused_since}
+use Rattle.terms.specs.Answers.{accepted_since, refused_since}
 use Rattle.statements.proofs.Spanned.{date_granted, date_outside, dated, first_outside, first_unreal, four_names_none, granted, its_days, last_outside, last_unreal, turned}
 use Rattle.statements.proofs.judging.judge_span.Goals as goal
 

@@ -1,7 +1,7 @@
 use Rattle.std.proofs.Common.{◌≡◌, ◌+◌, ◌<◌, Ok, ap, ◌∙◌, subst, unwrap_or, arith, rules}
 use Rattle.calendar.specs.Digits.{Numbered}
-use Rattle.histories.specs.Calls.{place}
-use Rattle.histories.specs.Figures.{load}
+use Rattle.rules.specs.Calls.{place}
+use Rattle.rules.specs.Figures.{load}
 use Rattle.statements.specs.Asked.{TellsRemainder}
 use Rattle.statements.specs.Sums.{remainder_on}
 use Rattle.statements.proofs.Judges.{some_load}

@@ -1,8 +1,8 @@
 use Rattle.std.proofs.Common.{◌≡◌, ◌+◌, ◌<◌, Ok, ap, ◌∙◌, subst, arith, rules}
 use Rattle.calendar.specs.Digits.{Numbered}
-use Rattle.histories.specs.Calls.{place}
-use Rattle.histories.specs.Figures.{retailer_sum}
-use Rattle.histories.specs.declared.call.Call.TheVariants.{AskRetailer}
+use Rattle.rules.specs.Calls.{place}
+use Rattle.rules.specs.Figures.{retailer_sum}
+use Rattle.rules.specs.declared.call.Call.TheVariants.{AskRetailer}
 use Rattle.book.specs.Follows.{Answers}
 use Rattle.book.specs.Replies.{sum_is}
 use Rattle.statements.proofs.Asking.{retailer_given}

@@ -1,8 +1,8 @@
 use Rattle.std.proofs.Common.{◌≡◌, ℕ, ◌+◌, min, Ok, Err, Result, ap, ◌∙◌, arith}
 use Rattle.std.proofs.lemmas.Result.{err_from_is_err_and}
 use Rattle.calendar.specs.Digits.{Numbered}
-use Rattle.refusals.specs.Answers.{accepted_since}
-use Rattle.refusals.specs.declared.refusal.Refusal.{Refusal}
+use Rattle.terms.specs.Answers.{accepted_since}
+use Rattle.terms.specs.declared.refusal.Refusal.{Refusal}
 use Rattle.statements.specs.Limits.{largest_sum}
 use Rattle.statements.specs.Spans.{sum_over}
 use Rattle.statements.proofs.Summed.{counted_more, of_none}

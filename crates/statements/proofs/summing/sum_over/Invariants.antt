@@ -1,6 +1,6 @@
 use Rattle.std.proofs.Common.{◌≡◌, ℕ, ◌+◌, ◌<◌, ◌≤◌, min, Ok, Result}
 use Rattle.calendar.specs.Digits.{Numbered}
-use Rattle.refusals.specs.declared.refusal.Refusal.{Refusal}
+use Rattle.terms.specs.declared.refusal.Refusal.{Refusal}
 use Rattle.statements.specs.Limits.{largest_sum}
 use Rattle.statements.specs.Spans.{sum_over}
 use Rattle.statements.proofs.summing.sum_over.Given as goal

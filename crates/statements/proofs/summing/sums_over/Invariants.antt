@@ -1,5 +1,5 @@
 use Rattle.std.proofs.Common.{◌≡◌, ℕ, ◌+◌, ◌<◌, ◌≤◌, length, get_or}
-use Rattle.histories.specs.History.{History, Setting}
+use Rattle.rules.specs.History.{History, Setting}
 use Rattle.book.specs.Follows.{Beyond, Follows}
 use Rattle.statements.specs.Limits.{largest_sum}
 use Rattle.statements.specs.Spans.{DaysOf}

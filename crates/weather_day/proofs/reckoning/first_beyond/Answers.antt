@@ -3,7 +3,7 @@ use Rattle.std.specs.Prelude.{position}
 use Rattle.std.specs.Option.{option_map, option_or}
 use Rattle.std.proofs.lemmas.Iterator.{YieldsList-from_slice}
 use Rattle.std.proofs.lemmas.Iterator.Search.{position_from_yields_List}
-use Rattle.degree_days.specs.Counts.{temperature_within, wind_within}
+use Rattle.estimates.specs.Counts.{temperature_within, wind_within}
 use Rattle.weather_day.specs.Words.{first_beyond}
 use Rattle.weather_day.specs.Reckoning.{unless}
 use Rattle.weather_day.specs.declared.word.Word.TheVariants as word

@@ -1,5 +1,5 @@
 use Rattle.std.proofs.Common.{◌≡◌, Ok, Result, rules}
-use Rattle.refusals.specs.declared.refusal.Refusal.{Refusal}
+use Rattle.terms.specs.declared.refusal.Refusal.{Refusal}
 use Rattle.calendar.specs.declared.date.Date.{Date}
 use Rattle.weather_day.proofs.Places.{place_found, place_within}
 use Rattle.weather_day.proofs.reckoning.place_of.Goals as goal

@@ -1,9 +1,9 @@
 use Rattle.std.proofs.Common.{ℕ, ◌<◌, sym, ap, ◌∙◌, subst}
 use Rattle.std.proofs.lemmas.Result.{err_from_is_err_and}
 use Rattle.std.specs.Option.{ok_or}
-use Rattle.histories.specs.Calls.{place}
-use Rattle.histories.specs.Figures.{load}
-use Rattle.refusals.specs.declared.refusal.Refusal.TheVariants.{AskedDayWithoutLoad}
+use Rattle.rules.specs.Calls.{place}
+use Rattle.rules.specs.Figures.{load}
+use Rattle.terms.specs.declared.refusal.Refusal.TheVariants.{AskedDayWithoutLoad}
 use Rattle.sheet.specs.Asking.{account, day_account}
 use Rattle.book.proofs.Asked.{account_told, day_asked}
 use Rattle.book.proofs.Steps.{question_granted, question_refused, told_book}

@@ -1,6 +1,6 @@
 use Rattle.std.proofs.Common.{ℕ, ◌<◌, sym, ap, ◌∙◌, subst}
 use Rattle.std.proofs.lemmas.Result.{err_from_is_err_and}
-use Rattle.histories.specs.Figures.{retailer_sum}
+use Rattle.rules.specs.Figures.{retailer_sum}
 use Rattle.book.specs.Replies.{sum_is}
 use Rattle.book.proofs.Asked.{sum_asked}
 use Rattle.book.proofs.Steps.{question_granted, question_refused, told_book}

@@ -1,6 +1,6 @@
 use Rattle.std.proofs.Common.{refl}
 use Rattle.std.proofs.lemmas.Result.{err_from_is_err_and}
-use Rattle.histories.specs.declared.call.Call.TheVariants.{EnterDegreeDays}
+use Rattle.rules.specs.declared.call.Call.TheVariants.{EnterDegreeDays}
 use Rattle.book.proofs.Counted.{count_entered}
 use Rattle.book.proofs.Steps.{refused_entry}
 use Rattle.book.proofs.book.Book.enter_degree_days.Goals as goal

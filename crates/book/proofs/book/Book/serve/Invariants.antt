@@ -1,6 +1,6 @@
 use Rattle.std.proofs.Common.{◌≡◌, T, length, take, drop}
 use Rattle.std.specs.List.{list_all}
-use Rattle.histories.specs.History.{History, Setting}
+use Rattle.rules.specs.History.{History, Setting}
 use Rattle.book.specs.Follows.{Beyond, Follows}
 use Rattle.book.specs.Replies.{leaves}
 use Rattle.book.proofs.Runs.{Ran}

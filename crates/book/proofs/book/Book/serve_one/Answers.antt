@@ -1,5 +1,5 @@
 use Rattle.std.proofs.Common.{refl, rules}
-use Rattle.histories.specs.declared.call.Call.TheVariants.{AskDay, AskFigure, AskRetailer, EnterDegreeDays}
+use Rattle.rules.specs.declared.call.Call.TheVariants.{AskDay, AskFigure, AskRetailer, EnterDegreeDays}
 use Rattle.book.proofs.Steps.{entry_served, question_served}
 use Rattle.book.proofs.book.Book.serve_one.Goals as goal
 

@@ -1,9 +1,9 @@
 use Rattle.std.proofs.Common.{Result, sym, ◌∙◌, subst}
 use Rattle.std.proofs.lemmas.Result.{err_from_is_err_and}
-use Rattle.histories.specs.declared.entry.Entry.{Entry}
+use Rattle.rules.specs.declared.entry.Entry.{Entry}
 use Rattle.ledger.specs.Told.{Answered}
-use Rattle.refusals.specs.Numbers.{number_of}
-use Rattle.refusals.specs.declared.refusal.Refusal.{Refusal}
+use Rattle.terms.specs.Numbers.{number_of}
+use Rattle.terms.specs.declared.refusal.Refusal.{Refusal}
 use Rattle.sheet.specs.Told.{Stands}
 use Rattle.sheet.specs.declared.state.Sheet.{Sheet}
 use Rattle.book.proofs.Steps.{accepted_entry, entry_granted, ledger_follows, no_count_entry, refusal_answers, refused_follows}

@@ -1,6 +1,6 @@
 use Rattle.std.proofs.Common.{◌&&◌, rules, tests}
-use Rattle.histories.specs.Readings.{replaces}
-use Rattle.readings.specs.Types.{firm}
+use Rattle.rules.specs.Readings.{replaces}
+use Rattle.terms.specs.Types.{firm}
 use Rattle.ledger.proofs.state.Ledger.holds_firm_under.Goals as goal
 
 pub returns : goal.returns

@@ -1,6 +1,6 @@
 use Rattle.std.proofs.Common.{vec_items, ◌∙◌}
-use Rattle.reading_places.specs.Places.{placed}
-use Rattle.reading_places.proofs.Held.{any_counted}
+use Rattle.ledger.specs.Places.{placed}
+use Rattle.ledger.proofs.Held.{any_counted}
 use Rattle.ledger.proofs.state.Ledger.holds_some.Goals as goal
 
 pub returns : goal.returns

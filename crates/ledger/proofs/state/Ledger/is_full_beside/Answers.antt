@@ -1,7 +1,7 @@
 use Rattle.std.proofs.Common.{not, leb, count_by, vec_items, rules, sym, ap, ◌∙◌, tests}
-use Rattle.histories.specs.Readings.{replaces}
-use Rattle.reading_places.specs.Places.{placed}
-use Rattle.reading_places.proofs.Held.{all_counted}
+use Rattle.rules.specs.Readings.{replaces}
+use Rattle.ledger.specs.Places.{placed}
+use Rattle.ledger.proofs.Held.{all_counted}
 use Rattle.ledger.proofs.state.Ledger.is_full_beside.Goals as goal
 
 pub returns : goal.returns

@@ -1,5 +1,5 @@
 use Rattle.std.proofs.Common.{true, false, is_some, sym, refl, ap, ◌∙◌}
-use Rattle.histories.specs.Figures.{load}
+use Rattle.rules.specs.Figures.{load}
 use Rattle.ledger.proofs.Asked.{day_given, day_refused}
 use Rattle.ledger.proofs.state.Ledger.judge_day.Goals as goal
 

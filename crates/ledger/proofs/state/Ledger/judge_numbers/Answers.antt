@@ -1,8 +1,8 @@
 use Rattle.std.proofs.Common.{◌≡◌, true, sym, ap, ◌∙◌, rules}
 use Rattle.std.proofs.lemmas.Result.{err_from_is_err_and}
 use Rattle.std.proofs.lemmas.Bool.{and_left, and_right}
-use Rattle.histories.specs.Calls.{between, energy_within}
-use Rattle.refusals.specs.Answers.{accepted_since, refused_since}
+use Rattle.rules.specs.Calls.{between, energy_within}
+use Rattle.terms.specs.Answers.{accepted_since, refused_since}
 use Rattle.ledger.proofs.Judged.{in_book_of, outside_refused}
 use Rattle.ledger.proofs.state.Ledger.judge_numbers.Goals as goal
 

@@ -1,6 +1,6 @@
 use Rattle.std.proofs.Common.{◌≡◌, ℕ, ◌*◌, ◌≤◌, T, List, ◌++◌, map, length, take, drop, None, vec_items, vec_len, Option, Vec, sym, ap, ◌∙◌, subst, arith}
 use Rattle.std.specs.declared.alloc.Global.{Global}
-use Rattle.histories.specs.declared.entry.Reading.{Reading}
+use Rattle.rules.specs.declared.entry.Reading.{Reading}
 use Rattle.ledger.specs.Limits.{opening_within}
 use Rattle.ledger.specs.Opened.{opening_refusal}
 use Rattle.ledger.specs.declared.opening.Opening.{Opening}

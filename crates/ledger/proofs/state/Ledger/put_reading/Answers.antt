@@ -1,7 +1,7 @@
 use Rattle.std.proofs.Common.{◌+◌, map, cond, is_some, vec_items, count_by, sym, refl, ap, ◌∙◌, arith}
 use Rattle.std.proofs.lemmas.Bool.{lt-ltb}
-use Rattle.reading_places.specs.Places.{left_by, placed}
-use Rattle.reading_places.proofs.Held.{count_left, count_taken, taken_left}
+use Rattle.ledger.specs.Places.{left_by, placed}
+use Rattle.ledger.proofs.Held.{count_left, count_taken, taken_left}
 use Rattle.ledger.proofs.Opened.{written_over}
 use Rattle.ledger.proofs.state.Ledger.put_reading.Goals as goal
 

@@ -1,5 +1,5 @@
 use Rattle.std.proofs.Common.{◌≤◌, not, is_some, sym, ◌∙◌, arith, rules}
-use Rattle.histories.specs.History.{covering}
+use Rattle.rules.specs.History.{covering}
 use Rattle.sheet.proofs.Asked.{account_told}
 use Rattle.sheet.proofs.Reworked.{supplied_shown_before}
 use Rattle.sheet.proofs.state.Sheet.day_figures.Goals as goal

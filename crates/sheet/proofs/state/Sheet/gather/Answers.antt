@@ -1,9 +1,9 @@
 use Rattle.std.proofs.Common.{◌≡◌, ℕ, ◌+◌, ◌<◌, Bool, length, is_some, sym, ◌∙◌, arith}
 use Rattle.std.proofs.lemmas.List.{ext_get_or, length-map}
-use Rattle.histories.specs.Figures.{estimate_counted}
-use Rattle.histories.specs.History.{covering}
-use Rattle.sharing.specs.declared.estimated_point.EstimatedPoint.{EstimatedPoint}
-use Rattle.sheet_laws.proofs.Rows.{from_counting}
+use Rattle.rules.specs.Figures.{estimate_counted}
+use Rattle.rules.specs.History.{covering}
+use Rattle.allocation.specs.declared.estimated_point.EstimatedPoint.{EstimatedPoint}
+use Rattle.sheet.proofs.Rows.{from_counting}
 use Rattle.sheet.specs.Scaling.{estimates_of, figures_of}
 use Rattle.sheet.proofs.Counting.{counted_more, counted_none}
 use Rattle.sheet.proofs.Scaled.{written_more}

@@ -1,6 +1,6 @@
 use Rattle.std.proofs.Common.{◌≡◌, ℕ, ◌+◌, ◌-◌, ◌^◌, ◌<◌, min, get_or, is_some}
-use Rattle.histories.specs.Figures.{estimate_counted}
-use Rattle.histories.specs.History.{History, Setting, covering}
+use Rattle.rules.specs.Figures.{estimate_counted}
+use Rattle.rules.specs.History.{History, Setting, covering}
 use Rattle.sheet.specs.Scaling.{estimates_of, figures_of}
 use Rattle.sheet.specs.Sums.{counted_sum}
 use Rattle.sheet.specs.Told.{EstimatesOn, Told}

@@ -1,6 +1,6 @@
 use Rattle.std.proofs.Common.{◌≡◌, ◌<◌, ◌≤◌, ◌∙◌, arith}
-use Rattle.histories.specs.Figures.{supplied_sum}
-use Rattle.sheet_laws.proofs.Bounds.{supplied_sum_bounded}
+use Rattle.rules.specs.Figures.{supplied_sum}
+use Rattle.rules.proofs.Bounds.{supplied_sum_bounded}
 use Rattle.sheet.specs.Scaling.{note_of, scaled}
 use Rattle.sheet.proofs.Generating.{supplied_shown}
 use Rattle.sheet.proofs.state.Sheet.generate.Goals as goal

@@ -1,7 +1,7 @@
 use Rattle.std.proofs.Common.{set, refl, ap, sym, ◌∙◌}
 use Rattle.std.proofs.lemmas.List.{map-set}
 use Rattle.estimators.proofs.Tables.{written_passes}
-use Rattle.sharing.specs.declared.reading_day.ReadingDay.{ReadingDay}
+use Rattle.allocation.specs.declared.reading_day.ReadingDay.{ReadingDay}
 use Rattle.sheet.specs.Limits.{load_within}
 use Rattle.sheet.specs.Weights.{weight_by, weights_of}
 use Rattle.sheet.proofs.Scaled.{load_passes}

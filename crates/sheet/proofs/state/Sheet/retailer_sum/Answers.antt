@@ -1,6 +1,6 @@
 use Rattle.std.proofs.Common.{◌≤◌, arith, rules}
-use Rattle.histories.specs.Figures.{belongs}
-use Rattle.histories.specs.History.{enrolment_of}
+use Rattle.rules.specs.Figures.{belongs}
+use Rattle.rules.specs.History.{enrolment_of}
 use Rattle.sheet.proofs.Asked.{retailer_told}
 use Rattle.sheet.proofs.state.Sheet.retailer_sum.Goals as goal
 

@@ -1,5 +1,5 @@
 use Rattle.std.proofs.Common.{ℕ, ◌<◌, ◌≤◌}
-use Rattle.histories.specs.History.{History, Setting}
+use Rattle.rules.specs.History.{History, Setting}
 use Rattle.sheet.specs.Cells.{OnlyDays}
 use Rattle.sheet.specs.Noted.{NotesStand, Ready, Settled}
 use Rattle.sheet.specs.Told.{Estimates, Told}

@@ -1,7 +1,7 @@
 use Rattle.std.proofs.Common.{◌≡◌, ℕ, ◌+◌, min, max, List, length, get_or, None, vec_items, Option, sym, ap, ◌∙◌, arith}
-use Rattle.histories.specs.History.{History, Setting}
-use Rattle.histories.specs.declared.entry.Reading.{Reading}
-use Rattle.sheet_laws.proofs.Placed.{placed_is_held}
+use Rattle.rules.specs.History.{History, Setting}
+use Rattle.rules.specs.declared.entry.Reading.{Reading}
+use Rattle.sheet.proofs.Placed.{placed_is_held}
 use Rattle.sheet.specs.Told.{Told}
 use Rattle.sheet.specs.declared.span.Span.{Span}
 use Rattle.sheet.specs.declared.state.Sheet.{Sheet}

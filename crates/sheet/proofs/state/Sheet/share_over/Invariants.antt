@@ -1,5 +1,5 @@
 use Rattle.std.proofs.Common.{◌≡◌, vec_items}
-use Rattle.histories.specs.History.{History, Setting}
+use Rattle.rules.specs.History.{History, Setting}
 use Rattle.sheet.specs.Told.{Told}
 use Rattle.sheet.proofs.Joining.{SharedTo, Spanned}
 use Rattle.sheet.proofs.state.Sheet.share_over.Given as goal

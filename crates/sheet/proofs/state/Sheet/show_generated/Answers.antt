@@ -1,7 +1,7 @@
 use Rattle.std.proofs.Common.{◌≡◌, ℕ, ◌+◌, ◌≤◌, true, false, length, length-append, is_some, rules, sym, refl, ap, ◌∙◌, subst, arith}
 use Rattle.std.proofs.lemmas.List.{get_or-map}
-use Rattle.histories.specs.History.{covering}
-use Rattle.sharing.specs.declared.estimated_point.EstimatedPoint.{EstimatedPoint}
+use Rattle.rules.specs.History.{covering}
+use Rattle.allocation.specs.declared.estimated_point.EstimatedPoint.{EstimatedPoint}
 use Rattle.sheet.proofs.Generating.{shown_kept, shown_written}
 use Rattle.sheet.proofs.Keeping.{told_only}
 use Rattle.sheet.proofs.Writing.{Written, written_only}

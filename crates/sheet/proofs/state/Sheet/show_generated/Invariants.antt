@@ -1,5 +1,5 @@
 use Rattle.std.proofs.Common.{◌≡◌, ◌+◌, length}
-use Rattle.histories.specs.History.{History, Setting}
+use Rattle.rules.specs.History.{History, Setting}
 use Rattle.sheet.specs.Cells.{OnlyDays}
 use Rattle.sheet.specs.Scaling.{figures_of}
 use Rattle.sheet.specs.Told.{Told}

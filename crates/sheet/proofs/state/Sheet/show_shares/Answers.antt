@@ -1,6 +1,6 @@
 use Rattle.std.proofs.Common.{◌≡◌, get_or, length, rules, sym, ap, ◌∙◌, arith}
 use Rattle.std.proofs.lemmas.List.{get_or-map}
-use Rattle.sharing.specs.declared.reading_day.ReadingDay.{ReadingDay}
+use Rattle.allocation.specs.declared.reading_day.ReadingDay.{ReadingDay}
 use Rattle.sheet.specs.Weights.{shares_of}
 use Rattle.sheet.proofs.Spreading.{cells_more, shown_more}
 use Rattle.sheet.proofs.state.Sheet.show_shares.Goals as goal

@@ -1,6 +1,6 @@
 use Rattle.std.proofs.Common.{◌<◌, true, rules, sym, ◌∙◌, subst, arith}
 use Rattle.std.proofs.lemmas.Bool.{leb-true}
-use Rattle.sheet_laws.proofs.Bounds.{load_bounded}
+use Rattle.rules.proofs.Bounds.{load_bounded}
 use Rattle.sheet.specs.Noted.{NoteHolds}
 use Rattle.sheet.proofs.Notes.{left_settled, nothing_settled, unloaded_settled, within_settled}
 use Rattle.sheet.proofs.state.Sheet.stands_by_its_note.Goals as goal

@@ -1,7 +1,7 @@
 use Rattle.std.proofs.Common.{ℕ, subst, arith}
 use Rattle.std.proofs.lemmas.Bool.Decides.{nat_tests}
-use Rattle.histories.specs.declared.entry.Entry.TheVariants.{Enrolled}
-use Rattle.sheet_laws.proofs.Entered.{entry_in}
+use Rattle.rules.specs.declared.entry.Entry.TheVariants.{Enrolled}
+use Rattle.rules.proofs.Entered.{entry_in}
 use Rattle.sheet.specs.Cells.{OnlyDays}
 use Rattle.sheet.specs.Noted.{NotesStand}
 use Rattle.sheet.proofs.Reworked.{enrolment_reworked, ready_after_enrolment, told_enrolment}

@@ -1,5 +1,5 @@
-use Rattle.histories.specs.declared.entry.Entry.TheVariants.{DegreeDaysEntered}
-use Rattle.sheet_laws.proofs.Entered.{entry_in}
+use Rattle.rules.specs.declared.entry.Entry.TheVariants.{DegreeDaysEntered}
+use Rattle.rules.proofs.Entered.{entry_in}
 use Rattle.sheet.proofs.Reworked.{count_reworked, supplied_after_count, told_count}
 use Rattle.sheet.proofs.state.Sheet.take_count.Goals as goal
 

@@ -1,0 +1,40 @@
+ghost use Rattle.std.specs.Prelude.{◌≡◌, ◌/◌, ◌<◌, T};
+ghost use Rattle.allocation.specs.Reciprocals.{serves};
+
+// Of numbers below this a reciprocal gives the exact quotient; it is made for divisors up to half of it.
+const SMALL: u64 = 1 << 32;
+
+// A divisor of many numbers. Most are divided by one multiplication with its reciprocal, which takes a fraction of a division's time.
+#[derive(Clone, Copy)]
+pub(crate) struct Divisor {
+    pub by: u64,
+    // 2^64 / by, rounded up; 0 where it is not used.
+    pub reciprocal: u64,
+    ghost serving: { T (serves by reciprocal) },
+}
+
+impl Divisor {
+    // The divisor of this number.
+    pub(crate) fn new(by: u64) -> Divisor
+        ensures { result.by ≡ by }
+    {
+        let reciprocal = if (2..=SMALL / 2).contains(&by) {
+            u64::MAX / by + 1
+        } else {
+            0
+        };
+        Divisor { by, reciprocal }
+    }
+
+    // The quotient of a number, rounded down.
+    pub(crate) fn quotient(self, number: u64) -> u64
+        requires { 0 < self.by }
+        ensures { result ≡ number / self.by }
+    {
+        if self.reciprocal > 0 && number < SMALL {
+            ((u128::from(number) * u128::from(self.reciprocal)) >> 64) as u64
+        } else {
+            number / self.by
+        }
+    }
+}

@@ -1,4 +1,0 @@
-pub mod Factors
-pub mod Figures
-pub mod Laws
-pub mod Bounds

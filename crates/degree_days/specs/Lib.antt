@@ -1,3 +1,0 @@
-pub mod Rounding
-pub mod Season
-pub mod Counts

@@ -1,0 +1,4 @@
+pub mod Months
+pub mod Limits
+pub mod Table
+pub mod Sums

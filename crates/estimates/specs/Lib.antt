@@ -1,0 +1,11 @@
+pub mod Factors
+pub mod WeatherFigures
+pub mod WeatherLaws
+pub mod WeatherBounds
+pub mod Usage
+pub mod HotWaterFigures
+pub mod HotWaterLaws
+pub mod HotWaterBounds
+pub mod Rounding
+pub mod Season
+pub mod Counts

@@ -1,4 +1,0 @@
-pub mod Days
-pub mod Once
-pub mod Reading
-pub mod Reporting

@@ -1,3 +1,0 @@
-pub mod Laws
-pub mod Report
-pub mod Runs

@@ -1,6 +1,0 @@
-use Rattle.std.proofs.Common.{refl}
-use Rattle.fields.proofs.Holding.{blank_sort, written_as}
-use Rattle.fields.proofs.blank.BlankFieldValue.to_text.Goals as goal
-
-pub returns : goal.returns
-returns c = written_as blank_sort tt _ refl refl

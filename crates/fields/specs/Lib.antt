@@ -1,5 +1,0 @@
-pub mod Columns
-pub mod Kinds
-pub mod Reads
-pub mod Texts
-pub mod FieldTexts

@@ -1,5 +1,0 @@
-use Rattle.figure_laws.proofs.Local.{count_elsewhere, count_here}
-use Rattle.figure_laws.proofs.counts_move_estimates.Goals as goal
-
-pub returns : goal.returns
-returns c = record { other_days = count_elsewhere; other_points = count_here }

@@ -1,5 +1,0 @@
-use Rattle.figure_laws.proofs.Lawfully.{gate_moves_joined, interval_moves_joined}
-use Rattle.figure_laws.proofs.loads_move_joined_days.Goals as goal
-
-pub returns : goal.returns
-returns c = record { gate = gate_moves_joined; interval = interval_moves_joined }

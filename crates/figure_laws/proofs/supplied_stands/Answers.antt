@@ -1,5 +1,0 @@
-use Rattle.figure_laws.proofs.Balanced.{supplied_any_estimator, supplied_shows}
-use Rattle.figure_laws.proofs.supplied_stands.Goals as goal
-
-pub returns : goal.returns
-returns c = record { share = supplied_shows; any_estimator = supplied_any_estimator }

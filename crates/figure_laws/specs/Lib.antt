@@ -1,6 +1,0 @@
-pub mod Balance
-pub mod Days
-pub mod Locality
-pub mod Orders
-pub mod Shown
-pub mod Worked

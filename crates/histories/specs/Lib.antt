@@ -1,4 +1,0 @@
-pub mod Calls
-pub mod Figures
-pub mod History
-pub mod Readings

@@ -1,4 +1,0 @@
-pub mod Usage
-pub mod Figures
-pub mod Laws
-pub mod Bounds

@@ -1,5 +1,0 @@
-pub mod Factors
-pub mod Opening
-pub mod Entering
-pub mod Served
-pub mod DayShown

@@ -1,4 +1,0 @@
-pub mod Numbers
-pub mod Dates
-pub mod Judging
-pub mod Lines

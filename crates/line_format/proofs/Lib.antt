@@ -1,0 +1,12 @@
+pub mod Digits
+pub mod Spaces
+pub mod Placing
+pub mod Scanning
+pub mod Decimal
+pub mod Exits
+pub mod Holding
+pub mod KindLaws
+pub mod Joining
+pub mod Pieces
+pub mod OneWriting
+pub mod Ends

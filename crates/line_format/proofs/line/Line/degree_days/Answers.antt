@@ -1,0 +1,8 @@
+use Rattle.std.proofs.Common.{refl}
+use Rattle.line_format.specs.Parts.{none, next}
+use Rattle.line_format.proofs.line.Line.degree_days.Goals as goal
+
+pub returns : goal.returns
+returns c =
+    let p = c.in_ok-date.ensures in
+    (refl, next p.0 (next p.1 (next p.2 (next p.3.0 (next p.3.1 none)))))

@@ -1,0 +1,16 @@
+pub mod Columns
+pub mod Kinds
+pub mod Reads
+pub mod Texts
+pub mod FieldTexts
+pub mod Tags
+pub mod Records
+pub mod Layouts
+pub mod Writing
+pub mod Parts
+pub mod Whole
+pub mod Reading
+pub mod Numbers
+pub mod Dates
+pub mod Judging
+pub mod Lines

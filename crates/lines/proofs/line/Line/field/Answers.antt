@@ -1,7 +1,0 @@
-use Rattle.lines.specs.Parts.{start}
-use Rattle.lines.proofs.Pieces.{field_read}
-use Rattle.lines.proofs.line.Line.field.Goals as goal
-
-pub returns : goal.returns
-returns g c =
-    field_read g.X.FieldValue.kind g.X.FieldValue.held g.met.X.FieldValue.ten_columns c.args.self.now.bytes (start c.args.field) _ _ _ _ c.columns.ensures c.column.ensures c.read.ensures c.placed.ensures

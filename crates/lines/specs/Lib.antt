@@ -1,3 +1,0 @@
-pub mod Parts
-pub mod Whole
-pub mod Reading

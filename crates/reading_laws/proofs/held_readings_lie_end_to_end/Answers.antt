@@ -1,5 +1,0 @@
-use Rattle.reading_laws.proofs.EndToEnd.{end_to_end}
-use Rattle.reading_laws.proofs.held_readings_lie_end_to_end.Goals as goal
-
-pub returns : goal.returns
-returns c = end_to_end

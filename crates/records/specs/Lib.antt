@@ -1,4 +1,0 @@
-pub mod Tags
-pub mod Records
-pub mod Layouts
-pub mod Writing

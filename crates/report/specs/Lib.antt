@@ -1,0 +1,11 @@
+pub mod Cut
+pub mod Kept
+pub mod Texts
+pub mod Told
+pub mod Judging
+pub mod Stands
+pub mod Lines
+pub mod Days
+pub mod Laws
+pub mod Report
+pub mod Runs

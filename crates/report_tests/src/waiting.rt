@@ -1,0 +1,64 @@
+// What was reported leaves before each wait for more input.
+use report::report;
+use std::cell::Cell;
+use std::io;
+use std::io::{BufWriter, Read, Write};
+use std::test::Fail;
+
+const REFUSAL_LENGTH: usize = 55;
+
+// Gives an empty line at each read, and notes at each whether the refusals of all lines before have arrived.
+#[derive(Drop)]
+struct Asks<'a> {
+    arrived: &'a Cell<usize>,
+    late: &'a Cell<usize>,
+    given: usize,
+}
+
+// Counts the bytes that arrive.
+#[derive(Drop)]
+struct Counts<'a> {
+    arrived: &'a Cell<usize>,
+}
+
+impl Read for Asks<'_> {
+    fn read(&mut self, piece: &mut [u8]) -> io::Result<usize> {
+        if self.arrived.get() != self.given.saturating_mul(REFUSAL_LENGTH) {
+            self.late.set(self.late.get().saturating_add(1));
+        }
+        if self.given == 20 || piece.is_empty() {
+            return Ok(0);
+        }
+        self.given = self.given.saturating_add(1);
+        piece[0] = b'\n';
+        Ok(1)
+    }
+}
+
+impl Write for Counts<'_> {
+    fn write(&mut self, bytes: &[u8]) -> io::Result<usize> {
+        self.arrived
+            .set(self.arrived.get().saturating_add(bytes.len()));
+        Ok(bytes.len())
+    }
+
+    fn flush(&mut self) -> io::Result<()> {
+        Ok(())
+    }
+}
+
+// The writer is behind a buffer that would hold all of the report.
+#[test]
+fn refusals_leave_before_each_read(rt: HostRuntime) -> Result<(), Fail> {
+    let (arrived, late) = (Cell::new(0), Cell::new(0));
+    let mut input = Asks {
+        arrived: &arrived,
+        late: &late,
+        given: 0,
+    };
+    let mut output = BufWriter::new(rt.alloc(), Counts { arrived: &arrived })?;
+    report(rt.alloc(), &mut input, &mut output)?;
+    assert_eq!(rt; late.get(), 0);
+    assert_eq!(rt; arrived.get(), 20 * REFUSAL_LENGTH);
+    Ok(())
+}

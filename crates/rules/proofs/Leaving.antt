@@ -1,0 +1,92 @@
+-- What an entry leaves of readings and marks. Assumes nothing.
+use Rattle.std.proofs.Common.{◌≡◌, ℕ, Bool, true, false, cond, not, ◌&&◌, ◌||◌, eqb, leb, List, [], ◌∷◌, Some, None, filter, sym, refl, ap, ◌∙◌}
+use Rattle.std.specs.Option.{option_or}
+use Rattle.std.proofs.lemmas.Bool.{and_left, cond-false, not-false, true≢false}
+use Rattle.rules.specs.Calls.{after_all_marks, started_before}
+use Rattle.rules.specs.History.{History, covering, covers, enrolment_of}
+use Rattle.rules.specs.Readings.{held_of, mark, replaces, some_reading, starts}
+use Rattle.rules.specs.declared.entry.Entry.{Entry}
+use Rattle.rules.specs.declared.entry.Entry.TheVariants.{Enrolled, GateEntered, IntervalEntered, DegreeDaysEntered, ReadingTaken}
+use Rattle.rules.specs.declared.entry.Reading.{Reading}
+use Rattle.rules.specs.Held.{enrols, held_by, is_reading, reads}
+use Rattle.rules.specs.ReadingLaws.{Leaves}
+use Rattle.rules.proofs.Spans.{replaces_facts}
+
+pub held_stays : (e : Entry) (h : History) → is_reading e ≡ false → held_of (e ∷ h) ≡ held_of h
+held_stays (Enrolled point enrolment) h no_reading = refl
+held_stays (GateEntered day gate) h no_reading = refl
+held_stays (IntervalEntered day meter energy) h no_reading = refl
+held_stays (DegreeDaysEntered day count) h no_reading = refl
+held_stays (ReadingTaken r) h no_reading = absurd (true≢false no_reading)
+
+-- a reading replaces none of another point
+others_by : (p : ℕ) (b : Bool) (o : Reading) (ks os : List Reading) → (b ≡ false → eqb o.point p ≡ false) → filter (λ x. eqb x.point p) ks ≡ filter (λ x. eqb x.point p) os → filter (λ x. eqb x.point p) (cond b (o ∷ ks) ks) ≡ filter (λ x. eqb x.point p) (o ∷ os)
+others_by p true o ks os gone same = ap (λ l. cond (eqb o.point p) (o ∷ l) l) same
+others_by p false o ks os gone same =
+    same ∙ sym (cond-false (eqb o.point p) (o ∷ filter (λ x. eqb x.point p) os) (filter (λ x. eqb x.point p) os) (gone refl))
+
+others_kept : (r : Reading) (p : ℕ) → eqb r.point p ≡ false → (rs : List Reading) → filter (λ x. eqb x.point p) (filter (λ old. not (replaces r old)) rs) ≡ filter (λ x. eqb x.point p) rs
+others_kept r p other [] = refl
+others_kept r p other (o ∷ os) =
+    others_by p (not (replaces r o)) o (filter (λ old. not (replaces r old)) os) os (λ gone.
+    ap (λ q. eqb q p) (sym (replaces_facts r o (not-false (replaces r o) gone)).0) ∙ other)
+    (others_kept r p other os)
+
+pub held_by_stays : (e : Entry) (h : History) (p : ℕ) → reads p e ≡ false → held_by (e ∷ h) p ≡ held_by h p
+held_by_stays (Enrolled point enrolment) h p other = refl
+held_by_stays (GateEntered day gate) h p other = refl
+held_by_stays (IntervalEntered day meter energy) h p other = refl
+held_by_stays (DegreeDaysEntered day count) h p other = refl
+held_by_stays (ReadingTaken r) h p other =
+    let rest = filter (λ old. not (replaces r old)) (held_of h) in
+    cond-false (eqb r.point p) (r ∷ filter (λ x. eqb x.point p) rest) (filter (λ x. eqb x.point p) rest) other
+    ∙ others_kept r p other (held_of h)
+
+pub covering_stays : (e : Entry) (h : History) (p d : ℕ) → reads p e ≡ false → covering (e ∷ h) p d ≡ covering h p d
+covering_stays (Enrolled point enrolment) h p d other = refl
+covering_stays (GateEntered day gate) h p d other = refl
+covering_stays (IntervalEntered day meter energy) h p d other = refl
+covering_stays (DegreeDaysEntered day count) h p d other = refl
+covering_stays (ReadingTaken r) h p d other =
+    ap (λ o. option_or o (covering h p d)) (cond-false (covers r p d) (Some r) None (and_left (eqb r.point p) _ other))
+
+pub enrolment_stays : (e : Entry) (h : History) (p : ℕ) → enrols p e ≡ false → enrolment_of (e ∷ h) p ≡ enrolment_of h p
+enrolment_stays (Enrolled point enrolment) h p other = ap (λ o. option_or o (enrolment_of h p)) (cond-false (eqb point p) (Some enrolment) None other)
+enrolment_stays (GateEntered day gate) h p other = refl
+enrolment_stays (IntervalEntered day meter energy) h p other = refl
+enrolment_stays (DegreeDaysEntered day count) h p other = refl
+enrolment_stays (ReadingTaken r) h p other = refl
+
+-- a test on the readings of a point is one on those that it holds
+by_point : (b : Bool) (test : Reading → Bool) (o : Reading) (rest : Bool) (ks : List Reading) → rest ≡ some_reading test ks → ((b && test o) || rest) ≡ some_reading test (cond b (o ∷ ks) ks)
+by_point true test o rest ks same = ap (λ x. test o || x) same
+by_point false test o rest ks same = same
+
+pub some_by_point : (p : ℕ) (test : Reading → Bool) (rs : List Reading) → some_reading (λ r. eqb r.point p && test r) rs ≡ some_reading test (filter (λ r. eqb r.point p) rs)
+some_by_point p test [] = refl
+some_by_point p test (o ∷ os) =
+    by_point (eqb o.point p) test o (some_reading (λ r. eqb r.point p && test r) os) (filter (λ r. eqb r.point p) os) (some_by_point p test os)
+
+pub test_stays : (e : Entry) (h : History) (p : ℕ) (test : Reading → Bool) → reads p e ≡ false → some_reading (λ r. eqb r.point p && test r) (held_of (e ∷ h)) ≡ some_reading (λ r. eqb r.point p && test r) (held_of h)
+test_stays e h p test other =
+    some_by_point p test (held_of (e ∷ h)) ∙ ap (some_reading test) (held_by_stays e h p other) ∙ sym (some_by_point p test (held_of h))
+
+pub marks_stay : (e : Entry) (h : History) (p m : ℕ) → enrols p e ≡ false → reads p e ≡ false → mark (e ∷ h) p m ≡ mark h p m
+marks_stay e h p m not_enrols not_reads =
+    ap (λ o. starts o m || some_reading (λ r. eqb r.point p && eqb r.end m) (held_of (e ∷ h))) (enrolment_stays e h p not_enrols)
+    ∙ ap (λ b. starts (enrolment_of h p) m || b) (test_stays e h p (λ r. eqb r.end m) not_reads)
+
+pub last_mark_stays : (e : Entry) (h : History) (p m : ℕ) → enrols p e ≡ false → reads p e ≡ false → after_all_marks (e ∷ h) p m ≡ after_all_marks h p m
+last_mark_stays e h p m not_enrols not_reads =
+    ap (λ o. started_before o m && not (some_reading (λ r. eqb r.point p && leb m r.end) (held_of (e ∷ h)))) (enrolment_stays e h p not_enrols)
+    ∙ ap (λ b. started_before (enrolment_of h p) m && not b) (test_stays e h p (λ r. leb m r.end) not_reads)
+
+pub leaves : (e : Entry) (h : History) → Leaves e h
+leaves e h = record {
+  held_stays = held_stays e h;
+  held_by_stays = held_by_stays e h;
+  covering_stays = covering_stays e h;
+  enrolment_stays = enrolment_stays e h;
+  marks_stay = marks_stay e h;
+  last_mark_stays = last_mark_stays e h;
+}

@@ -1,0 +1,5 @@
+use Rattle.rules.proofs.Balanced.{balances}
+use Rattle.rules.proofs.figure_laws.each_day_balances.Goals as goal
+
+pub returns : goal.returns
+returns c = balances

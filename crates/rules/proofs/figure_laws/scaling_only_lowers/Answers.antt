@@ -1,0 +1,5 @@
+use Rattle.rules.proofs.Balanced.{scaling_only_lowers}
+use Rattle.rules.proofs.figure_laws.scaling_only_lowers.Goals as goal
+
+pub returns : goal.returns
+returns c = scaling_only_lowers

@@ -1,0 +1,5 @@
+use Rattle.rules.proofs.InBook.{held_in_book}
+use Rattle.rules.proofs.reading_laws.held_readings_lie_in_the_book.Goals as goal
+
+pub returns : goal.returns
+returns c = held_in_book

@@ -1,0 +1,5 @@
+use Rattle.rules.proofs.Replacing.{replacing}
+use Rattle.rules.proofs.reading_laws.new_reading_replaces_whole_readings.Goals as goal
+
+pub returns : goal.returns
+returns c = replacing

@@ -1,0 +1,16 @@
+pub mod Calls
+pub mod Figures
+pub mod History
+pub mod Readings
+pub mod Held
+pub mod ReadingLaws
+pub mod WorkedReadings
+pub mod Balance
+pub mod Days
+pub mod Locality
+pub mod Orders
+pub mod Shown
+pub mod WorkedDays
+pub mod Bounds
+pub mod Entered
+pub mod LoadMoved

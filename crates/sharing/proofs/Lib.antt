@@ -1,5 +1,0 @@
-pub mod Handing
-pub mod Products
-pub mod Reciprocals
-pub mod Totals
-pub mod Turns

@@ -1,0 +1,5 @@
+pub mod Numbers
+pub mod Answers
+pub mod Letters
+pub mod Types
+pub mod Nearest

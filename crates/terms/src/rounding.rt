@@ -1,0 +1,28 @@
+ghost use Rattle.std.specs.Prelude.{◌+◌, ◌≤◌, ◌↔◌, IsTrue, nat_lt};
+ghost use Rattle.terms.specs.Answers.{Answers};
+ghost use Rattle.terms.specs.Nearest.{nearest};
+
+use crate::Refusal;
+
+// `number` ÷ `by` to the nearest whole number, halves up. Division by 0 is refused.
+pub fn nearest_quotient(number: u64, by: u64) -> Result<u64, Refusal>
+    ensures { Answers result (nat_lt 0 by) (nearest number by) 3 }
+{
+    if by == 0 {
+        return Err(Refusal::BeyondLimits);
+    }
+    let whole = number / by;
+    if half_or_more(number % by, by) {
+        Ok(whole + 1)
+    } else {
+        Ok(whole)
+    }
+}
+
+// Whether a rest is half of the divisor and more, told without a sum that could pass the largest u64.
+fn half_or_more(rest: u64, by: u64) -> bool
+    requires { rest ≤ by }
+    ensures { IsTrue result ↔ (by ≤ rest + rest) }
+{
+    rest >= by - rest
+}
