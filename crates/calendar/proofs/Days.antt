@@ -1,7 +1,7 @@
 -- What it says that a day exists, in its numbers and in its eight digits. Assumes nothing.
 use Rattle.std.proofs.Common.{◌≡◌, ℕ, ◌≤◌, Bool, true, false, T, refl, arith}
 use Rattle.std.proofs.lemmas.Bool.Decides.{nat_tests}
-use Rattle.calendar.specs.Gregorian.{exists, month_length}
+use Rattle.calendar.specs.Gregorian.{day_exists, month_length}
 use Rattle.calendar.specs.declared.date.Date.{Date}
 use Rattle.calendar.proofs.Months.{month_length_at_most}
 
@@ -24,10 +24,10 @@ T_from_true : (b : Bool) → b ≡ true → T b
 T_from_true b e = rw e tt
 
 -- a day that exists lies within the limits
-pub in_calendar : (y m d : ℕ) → T (exists y m d) → InCalendar y m d
-unfolding exists
+pub in_calendar : (y m d : ℕ) → T (day_exists y m d) → InCalendar y m d
+unfolding day_exists
 in_calendar y m d t =
-    let here : exists y m d ≡ true = true_from_t (exists y m d) t in
+    let here : day_exists y m d ≡ true = true_from_t (day_exists y m d) t in
     let month_low : 1 ≤ m = grind (arith, nat_tests) in
     let month_high : m ≤ 12 = grind (arith, nat_tests) in
     let day_high : d ≤ month_length y m = grind (arith, nat_tests) in
@@ -42,9 +42,9 @@ in_calendar y m d t =
     }
 
 -- a day within the limits exists
-pub exists_from : (y m d : ℕ) → 2001 ≤ y → y ≤ 2099 → 1 ≤ m → m ≤ 12 → 1 ≤ d → d ≤ month_length y m → T (exists y m d)
-unfolding exists
-exists_from y m d year_low year_high month_low month_high day_low day_high = T_from_true (exists y m d) (grind (arith, nat_tests))
+pub day_exists_from : (y m d : ℕ) → 2001 ≤ y → y ≤ 2099 → 1 ≤ m → m ≤ 12 → 1 ≤ d → d ≤ month_length y m → T (day_exists y m d)
+unfolding day_exists
+day_exists_from y m d year_low year_high month_low month_high day_low day_high = T_from_true (day_exists y m d) (grind (arith, nat_tests))
 
 -- so does every date
 pub dated : (d : Date) → InCalendar d.year d.month d.day

@@ -1,8 +1,8 @@
-pub mod Answered
+pub mod DateAnswers
 pub mod Years
 pub mod Months
 pub mod Days
-pub mod Numbers
-pub mod Shown
+pub mod DayNumbers
+pub mod DateDigits
 pub mod Order
-pub mod After
+pub mod NextDates

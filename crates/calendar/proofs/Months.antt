@@ -6,7 +6,7 @@ use Rattle.std.proofs.lemmas.List.{take-take}
 use Rattle.std.specs.List.{range_with_len}
 use Rattle.std.proofs.lemmas.Bool.{eqb-true, leb-true}
 use Rattle.std.proofs.lemmas.Bool.Decides.{Decides-below_and}
-use Rattle.calendar.specs.Gregorian.{leap, lengths_by, month_lengths, month_length, days_before_month, year_length}
+use Rattle.calendar.specs.Gregorian.{is_leap, month_lengths_by, month_lengths, month_length, days_before_month, year_length}
 
 -- the test passes at every number below n
 abbrev all_below : (ℕ → Bool) → ℕ → Bool
@@ -26,35 +26,35 @@ passes_both f n in_leap in_other false k h = passes_below (f false) n in_other k
 abbrev pub plain_lengths : List ℕ
 plain_lengths = 31 ∷ 28 ∷ 31 ∷ 30 ∷ 31 ∷ 30 ∷ 31 ∷ 31 ∷ 30 ∷ 31 ∷ 30 ∷ 31 ∷ []
 
-lengths_at : (b : Bool) (k : ℕ) → k < 12 → get_or (lengths_by b) k 0 ≡ get_or plain_lengths k 0 + cond (eqb k 1 && b) 1 0
+lengths_at : (b : Bool) (k : ℕ) → k < 12 → get_or (month_lengths_by b) k 0 ≡ get_or plain_lengths k 0 + cond (eqb k 1 && b) 1 0
 lengths_at b k h =
-    eqb-true (get_or (lengths_by b) k 0) (get_or plain_lengths k 0 + cond (eqb k 1 && b) 1 0)
-    (passes_both (λ b k. eqb (get_or (lengths_by b) k 0) (get_or plain_lengths k 0 + cond (eqb k 1 && b) 1 0)) 12 refl refl b k h)
+    eqb-true (get_or (month_lengths_by b) k 0) (get_or plain_lengths k 0 + cond (eqb k 1 && b) 1 0)
+    (passes_both (λ b k. eqb (get_or (month_lengths_by b) k 0) (get_or plain_lengths k 0 + cond (eqb k 1 && b) 1 0)) 12 refl refl b k h)
 
 -- a month has 28 days at least, and 31 at most
 pub month_length_at_least : (y m : ℕ) → 1 ≤ m → m ≤ 12 → 28 ≤ month_length y m
 unfolding month_length month_lengths
 month_length_at_least y m low high =
-    leb-true 28 (get_or (lengths_by (leap y)) (m - 1) 0)
-    (passes_both (λ b k. leb 28 (get_or (lengths_by b) k 0)) 12 refl refl (leap y) (m - 1) (omega arith))
+    leb-true 28 (get_or (month_lengths_by (is_leap y)) (m - 1) 0)
+    (passes_both (λ b k. leb 28 (get_or (month_lengths_by b) k 0)) 12 refl refl (is_leap y) (m - 1) (omega arith))
 
 pub month_length_at_most : (y m : ℕ) → 1 ≤ m → m ≤ 12 → month_length y m ≤ 31
 unfolding month_length month_lengths
 month_length_at_most y m low high =
-    leb-true (get_or (lengths_by (leap y)) (m - 1) 0) 31
-    (passes_both (λ b k. leb (get_or (lengths_by b) k 0) 31) 12 refl refl (leap y) (m - 1) (omega arith))
+    leb-true (get_or (month_lengths_by (is_leap y)) (m - 1) 0) 31
+    (passes_both (λ b k. leb (get_or (month_lengths_by b) k 0) 31) 12 refl refl (is_leap y) (m - 1) (omega arith))
 
 -- a month's length, by the table and the leap day
-pub month_length_is : (y m : ℕ) → 1 ≤ m → m ≤ 12 → month_length y m ≡ get_or plain_lengths (m - 1) 0 + cond (eqb (m - 1) 1 && leap y) 1 0
+pub month_length_is : (y m : ℕ) → 1 ≤ m → m ≤ 12 → month_length y m ≡ get_or plain_lengths (m - 1) 0 + cond (eqb (m - 1) 1 && is_leap y) 1 0
 unfolding month_length month_lengths
-month_length_is y m low high = lengths_at (leap y) (m - 1) (omega arith)
+month_length_is y m low high = lengths_at (is_leap y) (m - 1) (omega arith)
 
 -- the days before a month, and that month's own, are the days before the next
 pub days_before_next_month : (y m : ℕ) → 1 ≤ m → m ≤ 12 → days_before_month y (m + 1) ≡ days_before_month y m + month_length y m
 unfolding days_before_month month_length month_lengths
 days_before_next_month y m low high =
     let one_more : m + 1 - 1 ≡ m - 1 + 1 = omega arith in
-    rw one_more (sum_by_more (λ x. x) (lengths_by (leap y)) (m - 1) 0 (omega arith))
+    rw one_more (sum_by_more (λ x. x) (month_lengths_by (is_leap y)) (m - 1) 0 (omega arith))
 
 -- no day comes before January
 pub days_before_january : (y : ℕ) → days_before_month y 1 ≡ 0
@@ -85,7 +85,7 @@ months_before y m low high =
 -- a year has 366 days at most
 pub year_length_short : (y : ℕ) → year_length y ≤ 366
 unfolding year_length month_lengths
-year_length_short y = elim (leap y) as (λ b. sum (lengths_by b) ≤ 366) [ true ↦ omega arith | false ↦ omega arith ]
+year_length_short y = elim (is_leap y) as (λ b. sum (month_lengths_by b) ≤ 366) [ true ↦ omega arith | false ↦ omega arith ]
 
 -- the days before a later month are no fewer
 pub days_before_month_grows : (y m n : ℕ) → m ≤ n → days_before_month y m ≤ days_before_month y n

@@ -2,14 +2,14 @@
 use Rattle.std.proofs.Common.{◌≡◌, ℕ, ◌+◌, ◌<◌, T, ap, subst, inl, inr, arith}
 use lib.Dec.{T_prop}
 use Rattle.std.proofs.lemmas.Bool.{cases_order}
-use Rattle.calendar.specs.Gregorian.{exists, days_before_year, days_before_month, day_number, days_in_all}
+use Rattle.calendar.specs.Gregorian.{day_exists, days_before_year, days_before_month, day_number, days_in_all}
 use Rattle.calendar.specs.Digits.{digits, is_date, day_number_of}
-use Rattle.calendar.specs.Dates.{digits_of, number_of}
+use Rattle.calendar.specs.Date.{digits_of, date_day_number}
 use Rattle.calendar.specs.declared.date.Date.{Date}
 use Rattle.calendar.proofs.Days.{InCalendar, dated}
 use Rattle.calendar.proofs.Months.{days_before_next_month, days_before_month_grows}
-use Rattle.calendar.proofs.Numbers.{placed, number_below}
-use Rattle.calendar.proofs.Shown.{date_shown, digits_of_shown, number_of_shown}
+use Rattle.calendar.proofs.DayNumbers.{placed, number_below}
+use Rattle.calendar.proofs.DateDigits.{date_shown, digits_of_shown, number_of_shown}
 use Rattle.calendar.proofs.Years.{days_before_next_year, days_before_year_is}
 
 -- a day in an earlier year
@@ -49,20 +49,20 @@ in_order {y} {m} {d} {y'} {m'} {d'} a b h =
     ]
 
 -- a date with larger digits has a larger day number
-pub later_number : (a b : Date) → digits_of a < digits_of b → number_of a < number_of b
+pub later_number : (a b : Date) → digits_of a < digits_of b → date_day_number a < date_day_number b
 later_number a b h = in_order (dated a) (dated b) h
 
-date : (y m d : ℕ) → T (exists y m d) → Date
+date : (y m d : ℕ) → T (day_exists y m d) → Date
 date y m d real = record { year = y; month = m; day = d; real = real }
 
 -- dates with the same year, month and day are the same
 same_date : (a b : Date) → a.year ≡ b.year → a.month ≡ b.month → a.day ≡ b.day → a ≡ b
 unfolding date
 same_date a b e f g =
-    let By_year : ℕ → Type 0 = λ y. (real : T (exists y b.month b.day)) → a ≡ date y b.month b.day real in
-    let By_month : ℕ → Type 0 = λ m. (real : T (exists a.year m b.day)) → a ≡ date a.year m b.day real in
-    let By_day : ℕ → Type 0 = λ d. (real : T (exists a.year a.month d)) → a ≡ date a.year a.month d real in
-    let here : By_day a.day = λ real. ap (date a.year a.month a.day) (T_prop (exists a.year a.month a.day) a.real real) in
+    let By_year : ℕ → Type 0 = λ y. (real : T (day_exists y b.month b.day)) → a ≡ date y b.month b.day real in
+    let By_month : ℕ → Type 0 = λ m. (real : T (day_exists a.year m b.day)) → a ≡ date a.year m b.day real in
+    let By_day : ℕ → Type 0 = λ d. (real : T (day_exists a.year a.month d)) → a ≡ date a.year a.month d real in
+    let here : By_day a.day = λ real. ap (date a.year a.month a.day) (T_prop (day_exists a.year a.month a.day) a.real real) in
     subst By_year e (subst By_month f (subst By_day g here)) b.real
 
 -- two dates with the same digits are the same
@@ -73,7 +73,7 @@ same_digits a b h =
     same_date a b (omega arith) (omega arith) (omega arith)
 
 -- two dates with the same day number are the same
-pub same_number : (a b : Date) → number_of a ≡ number_of b → a ≡ b
+pub same_number : (a b : Date) → date_day_number a ≡ date_day_number b → a ≡ b
 same_number a b h =
     elim (cases_order (digits_of a) (digits_of b)) [
       | inl same ↦ same_digits a b same

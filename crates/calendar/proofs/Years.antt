@@ -3,17 +3,17 @@ use Rattle.std.proofs.Common.{◌≡◌, ℕ, zero, suc, ◌+◌, ◌-◌, ◌*�
 use native.Mathlib.Nat.{mul-add-mod_self_right}
 use Rattle.std.proofs.lemmas.List.FromFn.{sum_by-map-range_with_len_more}
 use Rattle.std.proofs.lemmas.Bool.Decides.{nat_tests}
-use Rattle.calendar.specs.Gregorian.{leap, lengths_by, month_lengths, year_length, days_before_year}
+use Rattle.calendar.specs.Gregorian.{is_leap, month_lengths_by, month_lengths, year_length, days_before_year}
 
 -- from 2001 to 2099 every fourth year is a leap year
-pub leap_by_four : (y : ℕ) → 2001 ≤ y → y ≤ 2099 → leap y ≡ eqb (y % 4) 0
-unfolding leap
+pub leap_by_four : (y : ℕ) → 2001 ≤ y → y ≤ 2099 → is_leap y ≡ eqb (y % 4) 0
+unfolding is_leap
 leap_by_four y low high = grind (arith, nat_tests)
 
 -- a year has 365 days, and a leap year one more
-pub year_length_is : (y : ℕ) → year_length y ≡ 365 + cond (leap y) 1 0
+pub year_length_is : (y : ℕ) → year_length y ≡ 365 + cond (is_leap y) 1 0
 unfolding year_length month_lengths
-year_length_is y = elim (leap y) as (λ b. sum (lengths_by b) ≡ 365 + cond b 1 0) [ true ↦ refl | false ↦ refl ]
+year_length_is y = elim (is_leap y) as (λ b. sum (month_lengths_by b) ≡ 365 + cond b 1 0) [ true ↦ refl | false ↦ refl ]
 
 -- the days before a year, and that year's own, are the days before the next
 pub days_before_next_year : (y : ℕ) → 2001 ≤ y → days_before_year (y + 1) ≡ days_before_year y + year_length y

@@ -1,3 +1,3 @@
 pub mod Gregorian
 pub mod Digits
-pub mod Dates
+pub mod Date

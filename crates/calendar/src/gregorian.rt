@@ -1,6 +1,8 @@
-ghost use Rattle.std.specs.Prelude.{◌≡◌, ◌≤◌};
-ghost use Rattle.calendar.specs.Gregorian.{leap, month_length, exists, days_before_month, days_before_year};
+ghost use Rattle.std.specs.Prelude.{◌≡◌, ◌+◌, ◌<◌, ◌≤◌};
+ghost use Rattle.calendar.specs.Gregorian.{is_leap, month_length, day_exists, days_before_month, days_before_year, year_length};
+ghost use Rattle.calendar.specs.Gregorian.{first_year, last_year};
 
+// The first and the last year of the calendar.
 pub(crate) const FIRST_YEAR: u32 = 2001;
 
 pub(crate) const LAST_YEAR: u32 = 2099;
@@ -8,17 +10,21 @@ pub(crate) const LAST_YEAR: u32 = 2099;
 // The days of a year that is no leap year.
 pub(crate) const DAYS_IN_YEAR: u32 = 365;
 
-// The days of each of its months.
+// The days of four years, of which the last is a leap year.
+pub(crate) const DAYS_IN_FOUR_YEARS: u32 = 1461;
+
+// The days of each month of such a year.
 const MONTH_LENGTHS: [u32; 12] = [31, 28, 31, 30, 31, 30, 31, 31, 30, 31, 30, 31];
 
 // Whether a year has a 29 February.
 pub(crate) fn is_leap(year: u32) -> bool
-    ensures { result ≡ leap year }
+    ensures { result ≡ is_leap year }
 {
     year % 4 == 0 && (year % 100 != 0 || year % 400 == 0)
 }
 
-// The days of a month. Year and month are two numbers: where these functions are asked there is often no `Date` yet.
+// The days of a month, counted from 1. Year and month are two numbers, since a `Date` is made only once its day is
+// known to exist.
 pub(crate) fn month_length(year: u32, month: u32) -> u32
     requires { (1 ≤ month) × (month ≤ 12) }
     ensures { result ≡ month_length year month }
@@ -28,7 +34,7 @@ pub(crate) fn month_length(year: u32, month: u32) -> u32
 
 // Whether there is such a day in the calendar.
 pub(crate) fn day_exists(year: u32, month: u32, day: u32) -> bool
-    ensures { result ≡ exists year month day }
+    ensures { result ≡ day_exists year month day }
 {
     (FIRST_YEAR..=LAST_YEAR).contains(&year)
         && (1..=12).contains(&month)
@@ -45,9 +51,22 @@ pub(crate) fn days_before_month(year: u32, month: u32) -> u32
 
 // The days from 1 January 2001 to a year's first. Every fourth year among them is a leap year, as 2100 is not reached.
 pub(crate) fn days_before_year(year: u32) -> u32
-    requires { (2001 ≤ year) × (year ≤ 2099) }
+    requires { (first_year ≤ year) × (year ≤ last_year) }
     ensures { result ≡ days_before_year year }
 {
     let years = year - FIRST_YEAR;
     years * DAYS_IN_YEAR + years / 4
+}
+
+// The month of the day that has so many days of its year before it.
+pub(crate) fn month_at(year: u32, days: u32) -> u32
+    requires { days < year_length year }
+    ensures low { 1 ≤ result }
+    ensures high { result ≤ 12 }
+    ensures begins { days_before_month year result ≤ days }
+    ensures ends_later { days < days_before_month year (result + 1) }
+{
+    (1..12)
+        .find(|month| days < days_before_month(year, *month + 1))
+        .unwrap_or(12)
 }

@@ -1,7 +1,7 @@
 -- The nearest quotient from the quotient and the rest. Assumes nothing.
 use Rattle.std.proofs.Common.{◌≡◌, ℕ, ◌+◌, ◌-◌, ◌*◌, ◌/◌, ◌%◌, ◌<◌, ◌≤◌, sym, ap, ◌∙◌, arith}
 use Rattle.std.proofs.lemmas.Nat.{div-add-mod', div-mul-add, mod_below}
-use Rattle.terms.specs.Nearest.{nearest}
+use Rattle.terms.specs.Rounding.{nearest}
 
 -- q with what is left below one whole
 nearest_is : (n d q b : ℕ) → b < 2 * d → q * (2 * d) + b ≡ 2 * n + d → q ≡ nearest n d

@@ -1,30 +1,30 @@
 -- What a call that may be refused answers.
 use Rattle.std.specs.Prelude.{◌≡◌, ℕ, Bool, true, false, Ok, Err, Result, refl}
-use Rattle.terms.specs.Numbers.{number_of}
+use Rattle.terms.specs.Refusal.{number_of}
 use Rattle.terms.specs.declared.refusal.Refusal.{Refusal}
 
 -- the call was refused, by the refusal of number n
-abbrev pub RefusedBy : {X : Type 0} → ℕ → Result X Refusal → Type 0
-RefusedBy n (Ok x) = ⊥
-RefusedBy n (Err e) = number_of e ≡ n
+abbrev pub IsRefusedBy : {X : Type 0} → ℕ → Result X Refusal → Type 0
+IsRefusedBy n (Ok x) = ⊥
+IsRefusedBy n (Err e) = number_of e ≡ n
 
 -- the call was accepted, and P holds of what it gave
-abbrev pub Accepted : {X : Type 0} → (X → Type 0) → Result X Refusal → Type 0
-Accepted P (Ok x) = P x
-Accepted P (Err e) = ⊥
+abbrev pub IsAccepted : {X : Type 0} → (X → Type 0) → Result X Refusal → Type 0
+IsAccepted P (Ok x) = P x
+IsAccepted P (Err e) = ⊥
 
 -- where the test passes the call gives a value of which P holds; where it does not, it is refused by number n
 abbrev pub AnswersBy : {X : Type 0} → Result X Refusal → Bool → (X → Type 0) → ℕ → Type 0
-AnswersBy r true P n = Accepted P r
-AnswersBy r false P n = RefusedBy n r
+AnswersBy r true P n = IsAccepted P r
+AnswersBy r false P n = IsRefusedBy n r
 
 -- where the test passes the call answers v; where it does not, it is refused by number n
 abbrev pub Answers : {X : Type 0} → Result X Refusal → Bool → X → ℕ → Type 0
 Answers r ok v n = AnswersBy r ok (λ x. x ≡ v) n
 
 -- accepted where the test passes; where it does not, refused by number n
-abbrev pub AcceptedWhen : {X : Type 0} → Result X Refusal → Bool → ℕ → Type 0
-AcceptedWhen r ok n = AnswersBy r ok (λ x. Unit {0}) n
+abbrev pub IsAcceptedWhen : {X : Type 0} → Result X Refusal → Bool → ℕ → Type 0
+IsAcceptedWhen r ok n = AnswersBy r ok (λ x. Unit {0}) n
 
 -- an answer from the test that leads to it
 pub answers_value : {X : Type 0} {ok : Bool} {x v : X} (n : ℕ) → ok ≡ true → x ≡ v → Answers (Ok x) ok v n

@@ -1,5 +1,6 @@
-pub mod Numbers
 pub mod Answers
-pub mod Letters
-pub mod Types
-pub mod Nearest
+pub mod Limits
+pub mod ReadingType
+pub mod Refusal
+pub mod RefusalNumbers
+pub mod Rounding

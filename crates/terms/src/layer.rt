@@ -1,16 +1,19 @@
 ghost use Rattle.std.specs.Prelude.{◌≡◌};
-ghost use Rattle.terms.specs.Numbers.{layer_number};
+ghost use Rattle.terms.specs.Refusal.{layer_number};
 
-// Where in the intake a refusal is met: the bytes of a line, the record in it, or the book.
+/// Where a refusal is met. A later layer sees a line only once the earlier ones have accepted it.
 #[derive(Clone, Copy, PartialEq, Eq, Debug)]
 pub enum Layer {
+    /// The bytes of a line.
     Line = 1,
+    /// The record that a line holds: its turn, its numbers and its dates.
     Record = 2,
+    /// The book that takes the record.
     Book = 3,
 }
 
 impl Layer {
-    // The number under which a layer is reported. A method, as `Refusal::number` is: a `From` for u8 would be no plainer.
+    /// The number under which a layer is reported: 1 for the line, 2 for the record, 3 for the book.
     pub fn number(self) -> u8
         ensures { result ≡ layer_number self }
     {

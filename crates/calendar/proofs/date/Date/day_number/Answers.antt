@@ -1,6 +1,6 @@
 use Rattle.std.proofs.Common.{arith}
 use Rattle.calendar.proofs.Days.{dated}
-use Rattle.calendar.proofs.Numbers.{placed}
+use Rattle.calendar.proofs.DayNumbers.{placed}
 use Rattle.calendar.proofs.date.Date.day_number.Goals as goal
 
 pub days_before_year-requires : goal.days_before_year-requires

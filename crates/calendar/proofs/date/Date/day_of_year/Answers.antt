@@ -1,6 +1,6 @@
 use Rattle.std.proofs.Common.{arith}
 use Rattle.calendar.proofs.Days.{dated}
-use Rattle.calendar.proofs.Numbers.{placed}
+use Rattle.calendar.proofs.DayNumbers.{placed}
 use Rattle.calendar.proofs.date.Date.day_of_year.Goals as goal
 
 pub days_before_month-requires : goal.days_before_month-requires

@@ -1,5 +1,6 @@
--- The number and the layer of each refusal, and the day that it names.
+-- The number and the layer of each refusal, and the date that it names.
 use Rattle.std.specs.Prelude.{ℕ, Some, None, Option}
+use Rattle.terms.specs.RefusalNumbers.{malformed_line, out_of_turn, beyond_limits, no_such_date, outside_book, negative_energy, point_not_enrolled, point_enrolled_already, start_is_no_mark, end_not_allowed, covered_day_without_load, soft_over_firm, reading_places_full, asked_day_without_load, list_too_short}
 use Rattle.terms.specs.declared.layer.Layer.{Layer}
 use Rattle.terms.specs.declared.layer.Layer.TheVariants.{Line, Record, Book}
 use Rattle.terms.specs.declared.refusal.Refusal.{Refusal}
@@ -7,21 +8,21 @@ use Rattle.terms.specs.declared.refusal.Refusal.TheVariants.{MalformedLine, OutO
 
 -- the number of each refusal; checks run in the order of these numbers
 abbrev pub number_of : Refusal → ℕ
-number_of MalformedLine = 1
-number_of OutOfTurn = 2
-number_of BeyondLimits = 3
-number_of NoSuchDate = 4
-number_of OutsideBook = 5
-number_of NegativeEnergy = 6
-number_of PointNotEnrolled = 7
-number_of PointEnrolledAlready = 8
-number_of StartIsNoMark = 9
-number_of EndNotAllowed = 10
-number_of (CoveredDayWithoutLoad date) = 11
-number_of SoftOverFirm = 12
-number_of ReadingPlacesFull = 13
-number_of (AskedDayWithoutLoad date) = 14
-number_of ListTooShort = 15
+number_of MalformedLine = malformed_line
+number_of OutOfTurn = out_of_turn
+number_of BeyondLimits = beyond_limits
+number_of NoSuchDate = no_such_date
+number_of OutsideBook = outside_book
+number_of NegativeEnergy = negative_energy
+number_of PointNotEnrolled = point_not_enrolled
+number_of PointEnrolledAlready = point_enrolled_already
+number_of StartIsNoMark = start_is_no_mark
+number_of EndNotAllowed = end_not_allowed
+number_of (CoveredDayWithoutLoad date) = covered_day_without_load
+number_of SoftOverFirm = soft_over_firm
+number_of ReadingPlacesFull = reading_places_full
+number_of (AskedDayWithoutLoad date) = asked_day_without_load
+number_of ListTooShort = list_too_short
 
 -- the layer that meets each refusal: the line's bytes, the record in it, or the book
 abbrev pub layer_of : Refusal → Layer
@@ -47,20 +48,8 @@ layer_number Line = 1
 layer_number Record = 2
 layer_number Book = 3
 
--- the date of the day that a refusal names, if it names one
-abbrev pub day_named : Refusal → Option ℕ
-day_named MalformedLine = None
-day_named OutOfTurn = None
-day_named BeyondLimits = None
-day_named NoSuchDate = None
-day_named OutsideBook = None
-day_named NegativeEnergy = None
-day_named PointNotEnrolled = None
-day_named PointEnrolledAlready = None
-day_named StartIsNoMark = None
-day_named EndNotAllowed = None
-day_named (CoveredDayWithoutLoad date) = Some date
-day_named SoftOverFirm = None
-day_named ReadingPlacesFull = None
-day_named (AskedDayWithoutLoad date) = Some date
-day_named ListTooShort = None
+-- the date of the day without a load that a refusal names, if it names one
+abbrev pub date_named : Refusal → Option ℕ
+date_named (CoveredDayWithoutLoad date) = Some date
+date_named (AskedDayWithoutLoad date) = Some date
+date_named other = None

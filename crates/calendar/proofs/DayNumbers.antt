@@ -4,10 +4,11 @@ use Rattle.std.specs.Option.{MatchOption}
 use Rattle.std.proofs.lemmas.Bool.{cases_lt, lt-ltb, le-ltb}
 use Rattle.terms.specs.Answers.{AnswersBy}
 use Rattle.terms.specs.declared.refusal.Refusal.TheVariants.{NoSuchDate}
+use Rattle.terms.specs.RefusalNumbers.{no_such_date}
 use Rattle.calendar.specs.Gregorian.{month_length, days_before_month, year_length, days_before_year, day_number, days_in_all}
-use Rattle.calendar.specs.Dates.{number_of, place_in_year}
+use Rattle.calendar.specs.Date.{date_day_number, date_day_of_year}
 use Rattle.calendar.specs.declared.date.Date.{Date}
-use Rattle.calendar.proofs.Answered.{accepted, no_such_date}
+use Rattle.calendar.proofs.DateAnswers.{accepted, refused_as_no_such_date}
 use Rattle.calendar.proofs.Years.{year_length_by_four, days_before_year_is, days_before_next_year}
 use Rattle.calendar.proofs.Months.{days_before_next_month, days_before_january, days_before_all_months, days_before_month_grows}
 use Rattle.calendar.proofs.Days.{InCalendar, dated}
@@ -56,17 +57,17 @@ month_found y days (Some m) h first = (
 )
 
 -- every date's number is below the number of all days
-pub number_below : (d : Date) → number_of d < days_in_all
+pub number_below : (d : Date) → date_day_number d < days_in_all
 number_below d = (placed (dated d)).number
 
 -- a place in a year is one of 366
-pub place_within : (d : Date) → (1 ≤ place_in_year d) × (place_in_year d ≤ 366)
+pub place_within : (d : Date) → (1 ≤ date_day_of_year d) × (date_day_of_year d ≤ 366)
 place_within d = let within = dated d in let place = placed within in (omega arith, omega arith)
 
 -- a date that has the number is the answer to a call that asks for it
-pub found : (d : Date) (n : ℕ) → number_of d ≡ n → AnswersBy (Ok d) (ltb n days_in_all) (λ x. number_of x ≡ n) 4
-found d n e = accepted (λ x. number_of x ≡ n) 4 e (lt-ltb n days_in_all (omega (arith, number_below d)))
+pub found : (d : Date) (n : ℕ) → date_day_number d ≡ n → AnswersBy (Ok d) (ltb n days_in_all) (λ x. date_day_number x ≡ n) no_such_date
+found d n e = accepted (λ x. date_day_number x ≡ n) no_such_date e (lt-ltb n days_in_all (omega (arith, number_below d)))
 
 -- a number past all days has no date
-pub past_all_days : (n : ℕ) (P : Date → Type 0) → days_in_all ≤ n → AnswersBy (Err NoSuchDate) (ltb n days_in_all) P 4
-past_all_days n P h = no_such_date P (le-ltb n days_in_all h)
+pub past_all_days : (n : ℕ) (P : Date → Type 0) → days_in_all ≤ n → AnswersBy (Err NoSuchDate) (ltb n days_in_all) P no_such_date
+past_all_days n P h = refused_as_no_such_date P (le-ltb n days_in_all h)

@@ -1,8 +1,15 @@
--- The letter of each type of reading.
-use Rattle.std.specs.Prelude.{◌≡◌, ◌≢◌, ℕ, Result, Ok, Err}
+-- The types of readings: which are firm, and their letters.
+use Rattle.std.specs.Prelude.{◌≡◌, ◌≢◌, ℕ, Bool, true, false, Result, Ok, Err}
 use Rattle.terms.specs.declared.reading_type.ReadingType.{ReadingType}
 use Rattle.terms.specs.declared.reading_type.ReadingType.TheVariants.{Actual, Substituted, Estimated, CustomersOwn}
-use Rattle.terms.specs.declared.letter.UnknownLetter.{UnknownLetter}
+use Rattle.terms.specs.declared.reading_type.UnknownLetter.{UnknownLetter}
+
+-- actual and substituted readings are firm; estimates and the customer's own are soft
+abbrev pub is_firm : ReadingType → Bool
+is_firm Actual = true
+is_firm Substituted = true
+is_firm Estimated = false
+is_firm CustomersOwn = false
 
 -- the letter of each type of reading: A, S, E, C
 abbrev pub letter_of : ReadingType → ℕ

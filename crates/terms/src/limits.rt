@@ -1,0 +1,5 @@
+/// The retailers of an area, numbered from 1.
+pub const RETAILERS: u32 = 16;
+
+/// The largest metered energy of a reading, in MJ. The smallest is 0: a negative one is a refusal of its own.
+pub const LARGEST_ENERGY: i64 = 10_000_000;
