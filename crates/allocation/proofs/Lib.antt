@@ -1,6 +1,6 @@
 pub mod LoadLaws
-pub mod Handing
-pub mod Products
-pub mod Reciprocals
+pub mod RowShares
 pub mod Totals
+pub mod Products
 pub mod Turns
+pub mod DivisionByReciprocal

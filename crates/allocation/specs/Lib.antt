@@ -1,7 +1,8 @@
 pub mod Loads
-pub mod Kinds
-pub mod Laws
-pub mod Limits
-pub mod Reciprocals
-pub mod Rows
+pub mod SharingLimits
 pub mod Sharing
+pub mod ShareLaws
+pub mod Row
+pub mod ReadingDay
+pub mod EstimatedPoint
+pub mod Divisor

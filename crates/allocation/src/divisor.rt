@@ -1,16 +1,17 @@
 ghost use Rattle.std.specs.Prelude.{◌≡◌, ◌/◌, ◌<◌, T};
-ghost use Rattle.allocation.specs.Reciprocals.{serves};
+ghost use Rattle.allocation.specs.Divisor.{is_reciprocal};
 
 // Of numbers below this a reciprocal gives the exact quotient; it is made for divisors up to half of it.
-const SMALL: u64 = 1 << 32;
+const RECIPROCAL_LIMIT: u64 = 1 << 32;
 
-// A divisor of many numbers. Most are divided by one multiplication with its reciprocal, which takes a fraction of a division's time.
+// A divisor of many numbers. Most are divided by one multiplication with its reciprocal, which takes a fraction of a
+// division's time.
 #[derive(Clone, Copy)]
 pub(crate) struct Divisor {
     pub by: u64,
     // 2^64 / by, rounded up; 0 where it is not used.
     pub reciprocal: u64,
-    ghost serving: { T (serves by reciprocal) },
+    ghost exact: { T (is_reciprocal by reciprocal) },
 }
 
 impl Divisor {
@@ -18,7 +19,7 @@ impl Divisor {
     pub(crate) fn new(by: u64) -> Divisor
         ensures { result.by ≡ by }
     {
-        let reciprocal = if (2..=SMALL / 2).contains(&by) {
+        let reciprocal = if (2..=RECIPROCAL_LIMIT / 2).contains(&by) {
             u64::MAX / by + 1
         } else {
             0
@@ -31,7 +32,7 @@ impl Divisor {
         requires { 0 < self.by }
         ensures { result ≡ number / self.by }
     {
-        if self.reciprocal > 0 && number < SMALL {
+        if self.reciprocal > 0 && number < RECIPROCAL_LIMIT {
             ((u128::from(number) * u128::from(self.reciprocal)) >> 64) as u64
         } else {
             number / self.by

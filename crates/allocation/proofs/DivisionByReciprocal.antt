@@ -3,15 +3,15 @@ use Rattle.std.proofs.Common.{◌≡◌, ℕ, ◌+◌, ◌-◌, ◌*◌, ◌/◌
 use Rattle.std.proofs.Math.Nat.{add-mul, div-add-mod, div-eq_of_lt-le, mod-lt, mul-add, mul-one}
 use Rattle.std.proofs.lemmas.Bool.{and_parts, cases_lt, eqb-true, leb-true, or_cases}
 use Rattle.std.proofs.lemmas.Nat.{div-add-mod'}
-use Rattle.allocation.specs.Reciprocals.{serves}
+use Rattle.allocation.specs.Divisor.{is_reciprocal}
 
 passed : (b : Bool) → T b → b ≡ true
 passed true t = refl
 passed false t = absurd t
 
 -- what a reciprocal that is used is
-pub serves_means : (by r : ℕ) → T (serves by r) → 0 < r → (by ≤ 2 ^ 31) × (r ≡ (2 ^ 64 - 1) / by + 1)
-serves_means by r is used =
+pub reciprocal_means : (by r : ℕ) → T (is_reciprocal by r) → 0 < r → (by ≤ 2 ^ 31) × (r ≡ (2 ^ 64 - 1) / by + 1)
+reciprocal_means by r is used =
     ⊎_elim
     (λ (none : eqb r 0 ≡ true). absurd (omega (arith, eqb-true r 0 none)))
     (λ (some : (leb 2 by && (leb by (2 ^ 31) && eqb r ((2 ^ 64 - 1) / by + 1))) ≡ true).

@@ -5,7 +5,7 @@ use Rattle.std.specs.Prelude.{ℕ}
 abbrev pub largest_day_weight : ℕ
 largest_day_weight = 1000000000
 
--- the largest estimate of a point on a day
+-- the largest estimate of a point on a day, in megajoules
 abbrev pub largest_estimate : ℕ
 largest_estimate = 1000000
 
