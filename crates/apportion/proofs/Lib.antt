@@ -1,0 +1,3 @@
+pub mod Days
+pub mod Numerals
+pub mod Requests

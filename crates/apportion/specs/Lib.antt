@@ -1,0 +1,5 @@
+pub mod Fault
+pub mod Limits
+pub mod Numerals
+pub mod Request
+pub mod Table

@@ -1,2 +1,0 @@
-pub mod Days
-pub mod Requests

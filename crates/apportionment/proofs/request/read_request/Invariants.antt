@@ -1,7 +1,0 @@
-use Rattle.std.proofs.Common.{◌+◌, length, vec_items}
-use Rattle.apportionment.specs.Words.{texts}
-use Rattle.apportionment.proofs.Requests.{ReadSoFar}
-use Rattle.apportionment.proofs.request.read_request.Given as goal
-
-abbrev pub invariant-loop-place : goal.invariant-loop-place
-invariant-loop-place l = ReadSoFar (texts l.words) (length l.yielded + 1) l.energy (vec_items l.loads)

@@ -1,5 +1,0 @@
-pub mod Answers
-pub mod Days
-pub mod Limits
-pub mod Table
-pub mod Words
