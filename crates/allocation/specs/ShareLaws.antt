@@ -1,12 +1,15 @@
 -- What holds of the shares whatever the formula. Those who build on sharing cite these laws and not the formula.
-use Rattle.std.specs.Prelude.{◌≡◌, ℕ, zero, suc, ◌+◌, ◌-◌, ◌*◌, ◌/◌, ◌<◌, ◌≤◌, List, map, length, sum, slice_index, slice_index_or}
-use Rattle.std.proofs.Common.{sym, ap, ◌∙◌, ⊎_elim, mul-div_cancel, mul-zero, mul-add, mul-le-mul_right, div-mul-le_self, add-one, arith}
+use Rattle.std.specs.Prelude.{◌≡◌, ℕ, zero, suc, ◌+◌, ◌-◌, ◌*◌, ◌/◌, ◌<◌, ◌≤◌}
+use Rattle.std.specs.Prelude.{List, map, length, sum, slice_index, slice_index_or}
+use Rattle.std.proofs.Common.{sym, ap, ◌∙◌, ⊎_elim, add-one, arith}
+use Rattle.std.proofs.Common.{mul-div_cancel, mul-zero, mul-add, mul-le-mul_right, div-mul-le_self}
 use Rattle.std.proofs.Math.Nat.{add-mul-div_left, zero-div}
 use Rattle.std.specs.List.{range_with_len}
 use Rattle.std.proofs.lemmas.Nat.{le-div}
 use Rattle.std.proofs.lemmas.List.{take_all, get_or_past}
 use Rattle.std.proofs.lemmas.Bool.{cases_lt}
-use Rattle.std.proofs.lemmas.List.FromFn.{length-map-range_with_len, get_or-map-range_with_len, sum_by-map-range_with_len_more}
+use Rattle.std.proofs.lemmas.List.FromFn.{length-map-range_with_len, get_or-map-range_with_len}
+use Rattle.std.proofs.lemmas.List.FromFn.{sum_by-map-range_with_len_more}
 use Rattle.std.proofs.lemmas.List.Sums.{sum_by_more}
 use Rattle.allocation.specs.Sharing.{running_sum, part, share_at, shares}
 
@@ -48,20 +51,26 @@ unfolding shares
 length_shares c ws = length-map-range_with_len (share_at c ws) 0 (length ws)
 
 -- the share at place k is share k
-pub slice_index_shares : (c : ℕ) (ws : List ℕ) (k : ℕ) → k < length ws → slice_index (shares c ws) k ≡ share_at c ws k
+pub slice_index_shares :
+    (c : ℕ) (ws : List ℕ) (k : ℕ) → k < length ws → slice_index (shares c ws) k ≡ share_at c ws k
 unfolding shares
 slice_index_shares c ws k h = get_or-map-range_with_len (share_at c ws) 0 (length ws) k k 0 h (omega arith)
 
 -- the first k shares add up to what falls to the first k weights
-front_sum : (c : ℕ) (ws : List ℕ) (k : ℕ) → 0 < sum ws → k ≤ length ws → sum (map (share_at c ws) (range_with_len 0 k)) ≡ part c (sum ws) (running_sum ws k)
+front_sum :
+    (c : ℕ) (ws : List ℕ) (k : ℕ) → 0 < sum ws → k ≤ length ws
+    → sum (map (share_at c ws) (range_with_len 0 k)) ≡ part c (sum ws) (running_sum ws k)
 unfolding share_at
 front_sum c ws zero pos h = sym (part_none c (sum ws))
 front_sum c ws (suc k) pos h =
     let before = front_sum c ws k pos (omega arith) in
     let one_more = sum_by-map-range_with_len_more (λ x. x) (share_at c ws) 0 k k (omega arith) in
-    let weights : running_sum ws (k + 1) ≡ running_sum ws k + slice_index_or ws k 0 = sum_by_more (λ x. x) ws k 0 (omega arith) in
-    let grows : part c (sum ws) (running_sum ws k) ≤ part c (sum ws) (running_sum ws (k + 1)) = rw weights (part_more c (sum ws) (running_sum ws k) (slice_index ws k) pos) in
-    let met : sum (map (share_at c ws) (range_with_len 0 (k + 1))) ≡ part c (sum ws) (running_sum ws (k + 1)) = omega (arith, before, one_more, grows) in
+    let weights : running_sum ws (k + 1) ≡ running_sum ws k + slice_index_or ws k 0 =
+    sum_by_more (λ x. x) ws k 0 (omega arith) in
+    let grows : part c (sum ws) (running_sum ws k) ≤ part c (sum ws) (running_sum ws (k + 1)) =
+    rw weights (part_more c (sum ws) (running_sum ws k) (slice_index ws k) pos) in
+    let met : sum (map (share_at c ws) (range_with_len 0 (k + 1))) ≡ part c (sum ws) (running_sum ws (k + 1)) =
+    omega (arith, before, one_more, grows) in
     rw add-one at met
 
 -- the shares add up to the amount
@@ -73,17 +82,22 @@ sum_shares c ws pos =
     met ∙ ap (part c (sum ws)) all ∙ part_all c (sum ws) pos
 
 -- at a place with a weight: the share is what that weight adds to what falls to the weights before it
-share_steps : (c : ℕ) (ws : List ℕ) (k : ℕ) → k < length ws → slice_index (shares c ws) k ≡ part c (sum ws) (running_sum ws k + slice_index ws k) - part c (sum ws) (running_sum ws k)
+share_steps :
+    (c : ℕ) (ws : List ℕ) (k : ℕ) → k < length ws
+    → slice_index (shares c ws) k
+    ≡ part c (sum ws) (running_sum ws k + slice_index ws k) - part c (sum ws) (running_sum ws k)
 unfolding share_at
 share_steps c ws k h =
-    slice_index_shares c ws k h ∙ ap (λ s. part c (sum ws) s - part c (sum ws) (running_sum ws k)) (sum_by_more (λ x. x) ws k 0 h)
+    slice_index_shares c ws k h
+    ∙ ap (λ s. part c (sum ws) s - part c (sum ws) (running_sum ws k)) (sum_by_more (λ x. x) ws k 0 h)
 
 -- past the last weight there is no share
 share_past : (c : ℕ) (ws : List ℕ) (k : ℕ) → length ws ≤ k → slice_index (shares c ws) k ≡ 0
 share_past c ws k h = get_or_past (shares c ws) k 0 (omega (arith, length_shares c ws))
 
 -- no share exceeds its weight where the amount is at most the whole weight
-pub share_within : (c : ℕ) (ws : List ℕ) (k : ℕ) → 0 < sum ws → c ≤ sum ws → slice_index (shares c ws) k ≤ slice_index ws k
+pub share_within :
+    (c : ℕ) (ws : List ℕ) (k : ℕ) → 0 < sum ws → c ≤ sum ws → slice_index (shares c ws) k ≤ slice_index ws k
 share_within c ws k pos most =
     ⊎_elim
     (λ h. omega (arith, share_steps c ws k h, part_step c (sum ws) (running_sum ws k) (slice_index ws k) pos most))
@@ -94,7 +108,8 @@ pub share_of_nothing : (c : ℕ) (ws : List ℕ) (k : ℕ) → slice_index ws k 
 share_of_nothing c ws k none =
     ⊎_elim
     (λ h.
-    let same : part c (sum ws) (running_sum ws k + slice_index ws k) ≡ part c (sum ws) (running_sum ws k) = ap (part c (sum ws)) (omega (arith, none)) in
+    let same : part c (sum ws) (running_sum ws k + slice_index ws k) ≡ part c (sum ws) (running_sum ws k) =
+    ap (part c (sum ws)) (omega (arith, none)) in
     omega (arith, share_steps c ws k h, same))
     (λ h. share_past c ws k h) (cases_lt k (length ws))
 

@@ -38,8 +38,8 @@ pub fn adjust_for_unaccounted(interval_total: u64, unaccounted: u64) -> Result<u
     nearest_quotient(interval_total * 10_000, 10_000 - unaccounted)
 }
 
-/// The net system load of a gas day in MJ, as in AEMO's methodology for net system load: what enters through the gate
-/// less what leaves and what interval meters burn with their share of unaccounted-for gas, and 0 where that is negative.
+/// The net system load of a gas day in MJ, by AEMO's methodology for net system load: what enters through the gate less
+/// what leaves and what interval meters burn with their share of unaccounted-for gas, and 0 where that is negative.
 ///
 /// Refused as `BeyondLimits` (3) where what enters or leaves is above `LARGEST_GATE`, or what the meters burn above
 /// `LARGEST_ADJUSTED`.

@@ -1,4 +1,5 @@
-ghost use Rattle.std.specs.Prelude.{◌≡◌, ◌+◌, ◌-◌, ◌*◌, ◌/◌, ◌^◌, ◌<◌, ◌≤◌, true, false, map, length, if◌then◌else◌, sum, MatchOption, nat_le};
+ghost use Rattle.std.specs.Prelude.{◌≡◌, ◌+◌, ◌-◌, ◌*◌, ◌/◌, ◌^◌, ◌<◌, ◌≤◌};
+ghost use Rattle.std.specs.Prelude.{true, false, map, length, if◌then◌else◌, sum, MatchOption, nat_le};
 ghost use Rattle.terms.specs.Answers.{AnswersBy, IsAcceptedWhen};
 ghost use Rattle.terms.specs.RefusalNumbers.{beyond_limits};
 ghost use Rattle.allocation.specs.Row.{rows_with_shares};

@@ -1,5 +1,6 @@
 -- Years, months and days from 1 January 2001 to 31 December 2099.
-use Rattle.std.specs.Prelude.{◌≡◌, ℕ, ◌+◌, ◌-◌, ◌%◌, Bool, if◌then◌else◌, not, ◌&&◌, ◌||◌, List, [], ◌∷◌, map, take, sum, ◌==◌, nat_le, slice_index, refl}
+use Rattle.std.specs.Prelude.{◌≡◌, ℕ, ◌+◌, ◌-◌, ◌%◌, Bool, if◌then◌else◌, not, ◌&&◌, ◌||◌, ◌==◌, nat_le, refl}
+use Rattle.std.specs.Prelude.{List, [], ◌∷◌, map, take, sum, slice_index}
 use Rattle.std.specs.List.{range_with_len}
 
 -- the first and the last year of the calendar
@@ -15,7 +16,8 @@ is_leap y = y % 4 == 0 && (not (y % 100 == 0) || y % 400 == 0)
 
 -- the days of the twelve months, in a leap year or in another
 abbrev pub month_lengths_by : Bool → List ℕ
-month_lengths_by in_leap_year = 31 ∷ (if in_leap_year then 29 else 28) ∷ 31 ∷ 30 ∷ 31 ∷ 30 ∷ 31 ∷ 31 ∷ 30 ∷ 31 ∷ 30 ∷ 31 ∷ []
+month_lengths_by in_leap_year =
+    31 ∷ (if in_leap_year then 29 else 28) ∷ 31 ∷ 30 ∷ 31 ∷ 30 ∷ 31 ∷ 31 ∷ 30 ∷ 31 ∷ 30 ∷ 31 ∷ []
 
 -- the days of the twelve months of year y
 unfoldable pub month_lengths : ℕ → List ℕ

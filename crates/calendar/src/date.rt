@@ -43,7 +43,8 @@ impl Date {
     ///
     /// Refused as `NoSuchDate` (4) from `DAYS_IN_ALL` on.
     pub fn from_day_number(day_number: u32) -> Result<Date, Refusal>
-        ensures { AnswersBy result (nat_lt day_number days_in_all) (λ d. date_day_number d ≡ day_number) no_such_date }
+        ensures { AnswersBy result (nat_lt day_number days_in_all)
+            (λ d. date_day_number d ≡ day_number) no_such_date }
     {
         if day_number >= DAYS_IN_ALL {
             return Err(Refusal::NoSuchDate);

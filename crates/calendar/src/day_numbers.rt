@@ -24,7 +24,8 @@ pub fn day_number_of(date: u32) -> Result<u32, Refusal>
 ///
 /// Refused as `NoSuchDate` (4) from `DAYS_IN_ALL` on.
 pub fn date_of_day_number(day_number: u32) -> Result<u32, Refusal>
-    ensures { AnswersBy result (nat_lt day_number days_in_all) (λ date. HasDayNumber date day_number) no_such_date }
+    ensures { AnswersBy result (nat_lt day_number days_in_all)
+        (λ date. HasDayNumber date day_number) no_such_date }
 {
     Ok(Date::from_day_number(day_number)?.digits())
 }

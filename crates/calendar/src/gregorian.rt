@@ -1,6 +1,6 @@
 ghost use Rattle.std.specs.Prelude.{◌≡◌, ◌+◌, ◌<◌, ◌≤◌};
-ghost use Rattle.calendar.specs.Gregorian.{is_leap, month_length, day_exists, days_before_month, days_before_year, year_length};
-ghost use Rattle.calendar.specs.Gregorian.{first_year, last_year};
+ghost use Rattle.calendar.specs.Gregorian.{first_year, last_year, is_leap, month_length, year_length};
+ghost use Rattle.calendar.specs.Gregorian.{day_exists, days_before_month, days_before_year};
 
 // The first and the last year of the calendar.
 pub(crate) const FIRST_YEAR: u32 = 2001;

@@ -30,14 +30,20 @@ IsAcceptedWhen r ok n = AnswersBy r ok (λ x. Unit {0}) n
 pub answers_value : {X : Type 0} {ok : Bool} {x v : X} (n : ℕ) → ok ≡ true → x ≡ v → Answers (Ok x) ok v n
 answers_value n passes e = rw passes e
 
-pub answers_refusal : {X : Type 0} {ok : Bool} (v : X) (n : ℕ) (e : Refusal) → ok ≡ false → number_of e ≡ n → Answers (Err e) ok v n
+pub answers_refusal :
+    {X : Type 0} {ok : Bool} (v : X) (n : ℕ) (e : Refusal)
+    → ok ≡ false → number_of e ≡ n → Answers (Err e) ok v n
 answers_refusal v n e fails same = rw fails same
 
 -- what an accepted and a refused answer say of the test
-pub accepted_since : {X : Type 0} (x : X) (ok : Bool) (P : X → Type 0) (n : ℕ) → AnswersBy (Ok x) ok P n → (ok ≡ true) × P x
+pub accepted_since :
+    {X : Type 0} (x : X) (ok : Bool) (P : X → Type 0) (n : ℕ)
+    → AnswersBy (Ok x) ok P n → (ok ≡ true) × P x
 accepted_since x true P n h = (refl, h)
 accepted_since x false P n h = absurd h
 
-pub refused_since : {X : Type 0} (e : Refusal) (ok : Bool) (P : X → Type 0) (n : ℕ) → AnswersBy (Err e) ok P n → (ok ≡ false) × (number_of e ≡ n)
+pub refused_since :
+    {X : Type 0} (e : Refusal) (ok : Bool) (P : X → Type 0) (n : ℕ)
+    → AnswersBy (Err e) ok P n → (ok ≡ false) × (number_of e ≡ n)
 refused_since e true P n h = absurd h
 refused_since e false P n h = (refl, h)

@@ -1,10 +1,17 @@
 -- The number and the layer of each refusal, and the date that it names.
 use Rattle.std.specs.Prelude.{ℕ, Some, None, Option}
-use Rattle.terms.specs.RefusalNumbers.{malformed_line, out_of_turn, beyond_limits, no_such_date, outside_book, negative_energy, point_not_enrolled, point_enrolled_already, start_is_no_mark, end_not_allowed, covered_day_without_load, soft_over_firm, reading_places_full, asked_day_without_load, list_too_short}
+use Rattle.terms.specs.RefusalNumbers.{malformed_line, out_of_turn, beyond_limits, no_such_date, outside_book}
+use Rattle.terms.specs.RefusalNumbers.{negative_energy, point_not_enrolled, point_enrolled_already}
+use Rattle.terms.specs.RefusalNumbers.{start_is_no_mark, end_not_allowed, covered_day_without_load, soft_over_firm}
+use Rattle.terms.specs.RefusalNumbers.{reading_places_full, asked_day_without_load, list_too_short}
 use Rattle.terms.specs.declared.layer.Layer.{Layer}
 use Rattle.terms.specs.declared.layer.Layer.TheVariants.{Line, Record, Book}
 use Rattle.terms.specs.declared.refusal.Refusal.{Refusal}
-use Rattle.terms.specs.declared.refusal.Refusal.TheVariants.{MalformedLine, OutOfTurn, BeyondLimits, NoSuchDate, OutsideBook, NegativeEnergy, PointNotEnrolled, PointEnrolledAlready, StartIsNoMark, EndNotAllowed, CoveredDayWithoutLoad, SoftOverFirm, ReadingPlacesFull, AskedDayWithoutLoad, ListTooShort}
+use Rattle.terms.specs.declared.refusal.Refusal.TheVariants.{MalformedLine, OutOfTurn, BeyondLimits, NoSuchDate}
+use Rattle.terms.specs.declared.refusal.Refusal.TheVariants.{OutsideBook, NegativeEnergy, PointNotEnrolled}
+use Rattle.terms.specs.declared.refusal.Refusal.TheVariants.{PointEnrolledAlready, StartIsNoMark, EndNotAllowed}
+use Rattle.terms.specs.declared.refusal.Refusal.TheVariants.{CoveredDayWithoutLoad, SoftOverFirm}
+use Rattle.terms.specs.declared.refusal.Refusal.TheVariants.{ReadingPlacesFull, AskedDayWithoutLoad, ListTooShort}
 
 -- the number of each refusal; checks run in the order of these numbers
 abbrev pub number_of : Refusal → ℕ
