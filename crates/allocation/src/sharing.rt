@@ -28,7 +28,8 @@ struct Progress {
 /// Refused as `BeyondLimits` (3), with the rows as they were, where no weight is above 0, or where the amount times the
 /// number of rows times the largest weight of their kind is above 4 × 10¹⁸.
 pub fn share<R: Row>(amount: u64, rows: &mut [R]) -> Result<(), Refusal>
-    ensures answer { IsAcceptedWhen result (can_share R.LARGEST amount (map R.weight rows.old)) beyond_limits }
+    ensures answer { IsAcceptedWhen result
+        (can_share R.LARGEST amount (map R.weight rows.old)) beyond_limits }
     ensures rows { rows.new ≡ (if can_share R.LARGEST amount (map R.weight rows.old)
         then rows_with_shares R.with_share rows.old (shares amount (map R.weight rows.old))
         else rows.old) }

@@ -15,9 +15,9 @@ pub(crate) enum Fault {
     TooFewWords,
     #[error("too many words: the loads of {most} days at most", most = DAYS)]
     TooManyWords,
-    // The word at this place, counted from 0, and what is wrong with it.
-    #[error("word {} {why}", .place.saturating_add(1))]
-    Word { place: usize, why: WordFault },
+    // The word at this index, counted from 0, and what is wrong with it.
+    #[error("word {} {why}", .index.saturating_add(1))]
+    Word { index: usize, why: WordFault },
     #[error("a number is beyond its limit")]
     Refused(Refusal),
     #[error("not enough memory")]

@@ -35,7 +35,7 @@ pub(crate) fn print_table(rt: &impl Print, lines: &[DayLine]) -> io::Result<()> 
 // Why there is no table, in one line.
 pub(crate) fn print_fault(rt: &impl Eprint, fault: Fault, words: &[String]) -> io::Result<()> {
     match fault {
-        Fault::Word { place, why } => print_word_fault(rt, place, why, words),
+        Fault::Word { index, why } => print_word_fault(rt, index, why, words),
         _ => eprintln!(rt; "apportion: {fault}"),
     }
 }
@@ -43,14 +43,14 @@ pub(crate) fn print_fault(rt: &impl Eprint, fault: Fault, words: &[String]) -> i
 // Names the word at fault, counted from 1, and says why.
 fn print_word_fault(
     rt: &impl Eprint,
-    place: usize,
+    index: usize,
     why: WordFault,
     words: &[String],
 ) -> io::Result<()> {
-    let word = words.get(place).map_or("", |word| word.as_str());
-    let number = place.saturating_add(1);
-    // By its place, which is all that a request tells of a word at fault: the energy stands first.
-    let (name, most) = if place == 0 {
+    let word = words.get(index).map_or("", |word| word.as_str());
+    let number = index.saturating_add(1);
+    // By its index, which is all that a request tells of a word at fault: the energy stands first.
+    let (name, most) = if index == 0 {
         ("energy", LARGEST_ENERGY)
     } else {
         ("load", LARGEST_LOAD)

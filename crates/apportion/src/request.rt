@@ -34,15 +34,15 @@ pub(crate) fn read_request(heap: Global, words: &[String]) -> Result<Request, Fa
     }
     let energy = number_at(words[0].as_str(), 0, LARGEST_ENERGY)?;
     let mut loads = Vec::new(heap);
-    for (place, word) in words.iter().enumerate().skip(1) {
-        loads.push(number_at(word.as_str(), place, LARGEST_LOAD)?)?;
+    for (index, word) in words.iter().enumerate().skip(1) {
+        loads.push(number_at(word.as_str(), index, LARGEST_LOAD)?)?;
     }
     Ok(Request { energy, loads })
 }
 
-// The number that the word at a place writes.
-fn number_at(word: &str, place: usize, limit: u64) -> Result<u64, Fault>
-    ensures { IsNumberAt word.now place limit result }
+// The number that the word at an index writes.
+fn number_at(word: &str, index: usize, limit: u64) -> Result<u64, Fault>
+    ensures { IsNumberAt word.now index limit result }
 {
-    number_up_to(word, limit).map_err(|why| Fault::Word { place, why })
+    number_up_to(word, limit).map_err(|why| Fault::Word { index, why })
 }

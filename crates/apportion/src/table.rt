@@ -25,7 +25,8 @@ pub(crate) struct DayLine {
 // Spreads an energy over the loads of consecutive days, a line for each day. Refused as `BeyondLimits` (3) where a
 // number is above its limit, or the days are none or more than a book has.
 pub(crate) fn spread(heap: Global, energy: u64, loads: &[u64]) -> Result<Vec<DayLine>, Fault>
-    ensures { MakesWhere (can_spread energy loads.now) (λ lines. lines.items ≡ table energy loads.now) result }
+    ensures { MakesWhere (can_spread energy loads.now)
+        (λ lines. lines.items ≡ table energy loads.now) result }
 {
     if energy > LARGEST_ENERGY || loads.is_empty() || loads.len() > DAYS as usize {
         return Err(Fault::Refused(Refusal::BeyondLimits));
@@ -51,7 +52,8 @@ fn shared_lines(
 
 // The days of these loads, with no share yet.
 fn weighed_days(heap: Global, loads: &[u64]) -> Result<Vec<ReadingDay>, Fault>
-    ensures { MakesWhere (loads_within loads.now) (λ days. weights_of days.items ≡ weights loads.now) result }
+    ensures { MakesWhere (loads_within loads.now)
+        (λ days. weights_of days.items ≡ weights loads.now) result }
 {
     let mut days = Vec::new(heap);
     for load in loads {

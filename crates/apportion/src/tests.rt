@@ -66,16 +66,16 @@ fn at_fault(rt: &(impl Abort + AllocGlobal), words: &[&str], fault: Fault) -> Re
     Ok(())
 }
 
-fn no_number(place: usize) -> Fault {
+fn no_number(index: usize) -> Fault {
     Fault::Word {
-        place,
+        index,
         why: WordFault::NotANumber,
     }
 }
 
-fn beyond(place: usize) -> Fault {
+fn beyond(index: usize) -> Fault {
     Fault::Word {
-        place,
+        index,
         why: WordFault::BeyondLimit,
     }
 }
