@@ -5,11 +5,8 @@ use std::alloc::{AllocError, Global};
 /// The id of the words that tell the day.
 pub const WORDS: &str = "WORDS";
 
-// A date, eight temperatures, sixteen winds and sunshine.
-const NAMES: [&str; 26] = [
-    "DATE", "T1", "T2", "T3", "T4", "T5", "T6", "T7", "T8", "W1", "W2", "W3", "W4", "W5", "W6",
-    "W7", "W8", "W9", "W10", "W11", "W12", "W13", "W14", "W15", "W16", "SUNSHINE",
-];
+/// How many there are: a date, eight temperatures, sixteen winds and sunshine.
+pub const WORD_COUNT: usize = 26;
 
 const USAGE: &str = "degreedays <DATE> <T1> .. <T8> <W1> .. <W16> <SUNSHINE>";
 
@@ -19,14 +16,15 @@ const HELP: &str = "Words:
   <W1> .. <W16>  Winds in knots, every three hours at each of two stations, from 0 to 100
   <SUNSHINE>     In tenths of an hour, from 0 to 160
 
-Exit status: 0 done; 1 a word is beyond its limits, or a write or memory failed; 2 the words are not understood.";
+Exit status: 0 done; 1 a word is missing or beyond its limits, or a write failed;
+2 an option is not understood.";
 
-/// The command line of the program: 26 words, kept as texts, since the first that is at fault is named whatever its fault.
+/// The command line of the program. Its words are kept as texts, since the first that is at fault is named in its turn,
+/// be it no number or beyond its limits.
 pub fn command<'a>(heap: Global) -> Result<Command<'a>, AllocError> {
     let words = Arg::new(heap, WORDS)
-        .action(ArgAction::Set)
-        .num_args(26)
-        .value_names(&NAMES)
+        .action(ArgAction::Append)
+        .num_args(1..)
         .allow_negative_numbers(true)
         .required(true)
         .hide(true);

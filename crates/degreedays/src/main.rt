@@ -1,6 +1,8 @@
 //! Counts the degree days of a day from what the weather stations observed, and shows what estimates make of them.
-//! Proved: the first word that is beyond its limits is the one that is named, and where none is, the terms and the count
-//! are those of the date and its observations, and a sample's figure is what the capped fall-back says it is.
+//!
+//! Proved: the first word that is beyond its limits is the one that is named, and where none is, the terms and the
+//! count are those of the date and its observations; a sample's figure is what the capped fall-back says it is, and the
+//! half that it is said to come from is the one that answers. What is printed is compared with a stored run.
 #![tactic(auto)]
 
 mod answer;
@@ -13,7 +15,7 @@ mod samples;
 mod tests;
 mod word;
 
-use command::{WORDS, command};
+use command::{WORD_COUNT, WORDS, command};
 use day::Day;
 use reckoning::reckon;
 use report::{show_fault, show_reckoning, show_samples};
@@ -30,6 +32,11 @@ fn main(rt: HostRuntime) -> anyhow::Result<ExitCode> {
         }
     };
     let words = matches.get_strs(WORDS).unwrap_or(&[]);
+    let count = words.len();
+    if count != WORD_COUNT {
+        eprintln!(rt; "degreedays: {WORD_COUNT} words are wanted, and there are {count}")?;
+        return Ok(ExitCode::FAILURE);
+    }
     let day = Day::from_words(words);
     match reckon(day.date, &day.observations) {
         Ok(reckoning) => {
