@@ -13,8 +13,8 @@ pub struct Day {
 impl Day {
     /// The day that words tell, in the order of `Word::index`.
     ///
-    /// A word that is absent or no number of its kind counts as one beyond its limits: of all words at fault the first is
-    /// named, and so each is judged in its turn.
+    /// A word that is absent or no number of its kind counts as one beyond its limits: of all words at fault the
+    /// first is named, and so each is judged in its turn.
     pub fn from_words(words: &[&str]) -> Day {
         Day {
             // 0 is no date.

@@ -19,8 +19,8 @@ pub struct Reckoning {
     pub count: u32,
 }
 
-/// The degree days of a date, given by its eight digits, or the first word that is at fault: the date where there is no such
-/// date from 2001 to 2099, else the first temperature, wind or sunshine beyond its limits.
+/// The degree days of a date, given by its eight digits, or the first word that is at fault: the date where there is
+/// no such date from 2001 to 2099, else the first temperature, wind or sunshine beyond its limits.
 pub fn reckon(date: u32, observations: &Observations) -> Result<Reckoning, Word>
     ensures { result ≡ ok_unless (first_fault date observations.now) (reckoning_of date observations.now) }
 {

@@ -3,8 +3,8 @@ ghost use Rattle.degreedays.specs.Word.{index_of};
 
 use thiserror::Error;
 
-/// A word of those that tell a day, the temperatures and the winds by their place from 1. It is shown with its limits, as
-/// what is said of it where it is at fault.
+/// A word of those that tell a day, the temperatures and the winds by their place from 1. It is shown with its
+/// limits, as what is said of it where it is at fault.
 #[derive(Clone, Copy, PartialEq, Eq, Debug, Error)]
 pub enum Word {
     #[error("the date has to be one from 20010101 to 20991231")]

@@ -38,7 +38,8 @@ pub trait Weather: Estimator {
 
     /// Enters the count of a day place, in hundredths of a degree day. It replaces an earlier one.
     ///
-    /// `BeyondLimits` (3), and nothing changes, where there is no such day place or the count is above `GREATEST_COUNT`.
+    /// `BeyondLimits` (3), and nothing changes, where there is no such day place or the count is above
+    /// `GREATEST_COUNT`.
     fn enter(&mut self, place: u32, count: u32) -> Result<(), Refusal>
         ensures answer { Answers result (weather_within place count) tt 3 }
         ensures entered { weather_within place count ≡ true
