@@ -1,4 +1,3 @@
 pub mod Months
-pub mod Limits
-pub mod Table
-pub mod Sums
+pub mod ObservationLimits
+pub mod SeasonTerms

@@ -1,50 +1,40 @@
--- The season term of a day: twice the cosine of the day's distance from midwinter, in hundredths, by the cosine's power series.
-use Rattle.std.specs.Prelude.{ℕ, zero, suc, ◌+◌, ◌-◌, ◌*◌, ◌/◌, ◌^◌, Bool, true, false, cond, ◌&&◌, List, [], ◌∷◌, ℤ, pos, negsuc, ◌-ℤ◌, ◌*ℤ◌, ◌==◌, int_le, nat_lt}
-use Rattle.estimates.specs.Rounding.{nearest_signed}
+-- The month of a day, and the seasons of the year by how much hot water is used in them.
+use Rattle.std.specs.Prelude.{ℕ, ◌≤◌, if◌then◌else◌, ◌&&◌, ◌||◌, ◌==◌, nat_le, nat_lt, Some, None, Option}
+use Rattle.std.proofs.Common.{arith}
+use Rattle.calendar.specs.Gregorian.{days_in_all}
+use Rattle.calendar.specs.Digits.{month_shown, date_numbered}
+use Rattle.estimates.specs.declared.season.Season.{Season}
+use Rattle.estimates.specs.declared.season.Season.TheVariants.{Cold, Between, Warm}
 
--- the days between day n of the year and day 200, forward or backward
-abbrev pub apart : ℕ → ℕ
-apart n = (n - 200) + (200 - n)
+-- the month of the date that has a day number; after 2099 there is none
+abbrev pub month_of_day_number : ℕ → Option ℕ
+month_of_day_number n = if nat_lt n days_in_all then Some (month_shown (date_numbered n)) else None
 
--- the same the shorter way round a year of 365 days
-abbrev pub from_midwinter : ℕ → ℕ
-from_midwinter n = cond (nat_lt 182 (apart n)) (365 - apart n) (apart n)
+-- the season of a month: cold from August to October, between in June, July, November and December, else warm
+abbrev pub season_of : ℕ → Season
+season_of month =
+    if nat_le 8 month && nat_le month 10 then Cold else
+    (if (month == 6 || month == 7) || (month == 11 || month == 12) then Between else Warm)
 
--- 1 × 2 × .. × n
-abbrev pub factorial : ℕ → ℕ
-factorial zero = 1
-factorial (suc n) = suc n * factorial n
+-- p, by the season of the last reading: in the cold more is used, so that litres read then count for less
+abbrev pub reading_weight : Season → ℕ
+reading_weight Cold = 3
+reading_weight Between = 4
+reading_weight Warm = 6
 
--- what the terms of the sum are counted in, so that each is a whole number
-abbrev pub denominator : ℕ
-denominator = 41245 ^ 20 * factorial 20
+-- q, by the season of the day: in the cold more is used; p × q is 12 where both fall in the same season
+abbrev pub day_weight : Season → ℕ
+day_weight Cold = 4
+day_weight Between = 3
+day_weight Warm = 2
 
--- y to the power k over k!, at y = 710 m ÷ 41,245, for k up to 20
-abbrev pub term : ℕ → ℕ → ℕ
-term m k = (710 * m) ^ k * 41245 ^ (20 - k) * (factorial 20 / factorial k)
+-- no weight of a reading is above 6, and none of a day above 4
+pub reading_weight_bound : (s : Season) → reading_weight s ≤ 6
+reading_weight_bound Cold = omega arith
+reading_weight_bound Between = omega arith
+reading_weight_bound Warm = omega arith
 
--- the cosine sum to its twentieth power: 1 − y² ÷ 2! + y⁴ ÷ 4! − .. + y²⁰ ÷ 20!
-abbrev pub cosine_sum : ℕ → ℤ
-cosine_sum m =
-    pos (term m 0 + term m 4 + term m 8 + term m 12 + term m 16 + term m 20)
-    -ℤ pos (term m 2 + term m 6 + term m 10 + term m 14 + term m 18)
-
--- the season term of day n of the year: the whole number nearest to 200 times the sum, halves up
-abbrev pub season : ℕ → ℤ
-season n = nearest_signed (pos 200 *ℤ cosine_sum (from_midwinter n)) denominator
-
--- two whole numbers are one
-abbrev pub same : ℤ → ℤ → Bool
-same (pos a) (pos b) = a == b
-same (pos a) (negsuc b) = false
-same (negsuc a) (pos b) = false
-same (negsuc a) (negsuc b) = a == b
-
--- each entry of a table is the season term of its day, the first entry's day being n
-abbrev pub seasonal : ℕ → List ℤ → Bool
-seasonal n [] = true
-seasonal n (x ∷ xs) = same x (season n) && seasonal (suc n) xs
-
--- a season term is from −2.00 to 2.00 degree days
-abbrev pub moderate : ℤ → Bool
-moderate s = int_le (negsuc 199) s && int_le s (pos 200)
+pub day_weight_bound : (s : Season) → day_weight s ≤ 4
+day_weight_bound Cold = omega arith
+day_weight_bound Between = omega arith
+day_weight_bound Warm = omega arith

@@ -1,24 +1,27 @@
 ghost use Rattle.std.specs.Prelude.{◌≡◌, T};
 ghost use Rattle.estimates.specs.Usage.{usage_within, hot_water_figure};
 
-use super::month_season::Season;
+use super::season::Season;
 
-const MOST_LITRES: u64 = 500_000;
+/// A reading of hot water is of at most so many litres.
+pub const MOST_LITRES: u64 = 500_000;
 
-const MOST_DAYS: u64 = 400;
+/// A reading of hot water is over at most so many days.
+pub const MOST_DAYS: u64 = 400;
 
-// In kilojoules a litre.
-const MOST_HEAT: u64 = 1_000;
+/// A litre of hot water takes at most so many kilojoules.
+pub const MOST_HEAT: u64 = 1_000;
 
-// The hot water of a point, as it was last metered.
+/// The hot water of a point, as it was last metered.
 #[derive(Clone, Copy, Debug, PartialEq, Eq)]
 pub struct Usage {
+    /// From 0 to 500,000.
     pub litres: u64,
-    // The days over which the litres were used.
+    /// The days over which the litres were used, from 1 to 400.
     pub days: u64,
-    // The month of the last reading, counted from 1 for January.
+    /// The month of the last reading, counted from 1 for January.
     pub read_in: u32,
-    // In kilojoules a litre.
+    /// In kilojoules a litre, from 0 to 1,000.
     pub heat: u64,
 }
 

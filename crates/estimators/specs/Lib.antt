@@ -1,6 +1,5 @@
 pub mod Limits
 pub mod Entries
 pub mod Meaning
-pub mod Caps
-pub mod Capped
-pub mod Joined
+pub mod Cap
+pub mod FallBack

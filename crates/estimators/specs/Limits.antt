@@ -22,8 +22,8 @@ abbrev pub point_within : ℕ → Bool
 point_within point = nat_le 1 point && nat_le point last_point
 
 -- there is such a day place
-abbrev pub day_within : ℕ → Bool
-day_within day = nat_le 1 day && nat_le day last_day
+abbrev pub day_place_within : ℕ → Bool
+day_place_within place = nat_le 1 place && nat_le place last_day
 
 -- a degree-day count that there can be
 abbrev pub count_within : ℕ → Bool

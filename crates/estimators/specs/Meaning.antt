@@ -1,38 +1,47 @@
--- What an estimator means, and what entering weather does to it.
+-- What an estimator means, its limits, and what entering a count does to it.
 use Rattle.std.specs.Prelude.{◌≡◌, ℕ, ◌≤◌, Bool, false, ◌&&◌, Some, None, Option, ◌≢◌}
-use Rattle.std.specs.Option.{option_or}
-use Rattle.estimators.specs.Limits.{greatest_figure, point_within, day_within, count_within}
+use Rattle.estimators.specs.Limits.{greatest_figure, point_within, day_place_within, count_within}
 
 -- a figure or none for each point and day place
 abbrev pub Meaning : Type 0
 Meaning = ℕ → ℕ → Option ℕ
 
+-- all that a weather estimator means: its figures as they are, and those of a day place under each count
+pub record Meanings : Type 0 where
+  pub current : Meaning
+  pub under : ℕ → Meaning
+
+-- both meanings of a weather estimator in one, as a contract under a bound `E: Weather` names them:
+-- `meanings_of E.meaning E.under estimator.now`
+abbrev pub meanings_of : {E : Type 0} → (E → Meaning) → (E → ℕ → Meaning) → E → Meanings
+meanings_of meaning under estimator = record { current = meaning estimator; under = under estimator }
+
 -- every figure is within its limit
-abbrev pub Bounded : Meaning → Type 0
-Bounded m = (point day x : ℕ) → m point day ≡ Some x → x ≤ greatest_figure
+abbrev pub IsBounded : Meaning → Type 0
+IsBounded m = (point place x : ℕ) → m point place ≡ Some x → x ≤ greatest_figure
 
 -- outside the points and day places there is no figure
-abbrev pub Ranged : Meaning → Type 0
-Ranged m = (point day : ℕ) → (point_within point && day_within day) ≡ false → m point day ≡ None
+abbrev pub IsRanged : Meaning → Type 0
+IsRanged m =
+    (point place : ℕ) → (point_within point && day_place_within place) ≡ false → m point place ≡ None
 
 -- weather that can be entered: a day place and a count within their limits
 abbrev pub weather_within : ℕ → ℕ → Bool
-weather_within day count = day_within day && count_within count
+weather_within place count = day_place_within place && count_within count
 
 -- every figure under a count is within its limit
-abbrev pub BoundedUnder : (ℕ → Meaning) → Type 0
-BoundedUnder u = (count : ℕ) → Bounded (u count)
+abbrev pub IsBoundedUnder : (ℕ → Meaning) → Type 0
+IsBoundedUnder u = (count : ℕ) → IsBounded (u count)
 
 -- outside the points, day places and counts there is no figure under a count
-abbrev pub RangedUnder : (ℕ → Meaning) → Type 0
-RangedUnder u = (count point day : ℕ) → (point_within point && weather_within day count) ≡ false → u count point day ≡ None
+abbrev pub IsRangedUnder : (ℕ → Meaning) → Type 0
+IsRangedUnder u =
+    (count point place : ℕ) → (point_within point && weather_within place count) ≡ false
+    → u count point place ≡ None
 
--- a count entered for a day: that day's figures are those under the count, all other days stand, and so does every figure under weather
-pub record Entered (day count : ℕ) (old new : Meaning) (old_under new_under : ℕ → Meaning) : Type 0 where
-  pub here : (point : ℕ) → new point day ≡ old_under count point day
-  pub elsewhere : (point other : ℕ) → (other ≢ day) → new point other ≡ old point other
+-- what entering a count for a day place does: its figures become those under the count, those of all other day places
+-- stand, and so does every figure under a count
+pub record TakesCount (place count : ℕ) (old new : Meaning) (old_under new_under : ℕ → Meaning) : Type 0 where
+  pub here : (point : ℕ) → new point place ≡ old_under count point place
+  pub elsewhere : (point other : ℕ) → (other ≢ place) → new point other ≡ old point other
   pub stands : (e point other : ℕ) → new_under e point other ≡ old_under e point other
-
--- the first estimator's figure where it has one, else the second's
-abbrev pub first_of : Meaning → Meaning → Meaning
-first_of a b point day = option_or (a point day) (b point day)

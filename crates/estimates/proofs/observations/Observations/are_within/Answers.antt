@@ -3,7 +3,7 @@ use Rattle.std.specs.List.{list_all}
 use Rattle.std.proofs.lemmas.Grind.{common_steps}
 use Rattle.std.proofs.lemmas.Iterator.{YieldsList-from_slice}
 use Rattle.std.proofs.lemmas.Iterator.Search.{all_from_yields_List}
-use Rattle.estimates.specs.Counts.{temperature_within, wind_within}
+use Rattle.estimates.specs.Observations.{temperature_within, wind_within}
 use Rattle.estimates.proofs.observations.Observations.are_within.Goals as goal
 
 pub returns-then-calm : goal.returns-then-calm

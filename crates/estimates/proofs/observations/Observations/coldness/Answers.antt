@@ -2,9 +2,8 @@ use Rattle.std.proofs.Common.{◌≡◌, sym, ap, ◌∙◌, pos, negsuc, ◌-�
 use Rattle.std.proofs.lemmas.Int.{ints, to_z-of_z}
 use Rattle.std.proofs.lemmas.List.{take_all}
 use Rattle.std.proofs.lemmas.List.Sums.{fold_more}
-use Rattle.estimates.specs.Counts.{signed_sum}
-use Rattle.estimates.proofs.Limits.{or_zero_at_most, within}
-use Rattle.estimates.proofs.Sums.{temperature_at}
+use Rattle.estimates.specs.Observations.{signed_sum}
+use Rattle.estimates.proofs.ObservationLimits.{or_zero_at_most, temperature_at, within}
 use Rattle.estimates.proofs.observations.Observations.coldness.Goals as goal
 
 pub loop-t-preserved : goal.loop-t-preserved

@@ -1,6 +1,6 @@
 use Rattle.std.proofs.Common.{◌≡◌, ◌<◌, ◌^◌, sum, arith, rules}
 use Rattle.std.proofs.iter.runs.Made.{chains}
-use Rattle.estimates.proofs.Sums.{winds_sum}
+use Rattle.estimates.proofs.ObservationLimits.{winds_sum}
 use Rattle.estimates.proofs.observations.Observations.wind_sum.Goals as goal
 
 pub sum-requires-clause-fits : goal.sum-requires-clause-fits

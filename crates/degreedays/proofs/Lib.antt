@@ -1,0 +1,2 @@
+pub mod DaysOfYear
+pub mod Faults

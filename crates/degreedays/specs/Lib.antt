@@ -1,0 +1,3 @@
+pub mod Word
+pub mod Reckoning
+pub mod Half
