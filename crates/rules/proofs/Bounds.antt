@@ -12,21 +12,19 @@ use Rattle.allocation.specs.Loads.{largest_gate}
 use Rattle.allocation.specs.Laws.{sum_shares}
 use Rattle.allocation.specs.Limits.{largest_product}
 use Rattle.allocation.specs.Sharing.{can_share, shares}
-use Rattle.rules.specs.Calls.{Lawful, beyond_limits, entry_of}
-use Rattle.rules.specs.Figures.{estimate, estimate_counted, estimated, estimates, figure, generated, load, load_by, share_on, supplied, supplied_sum, weight, weights}
-use Rattle.rules.specs.History.{History, Setting, covering, gate_of}
+use Rattle.rules.specs.Calls.{IsLawful, is_beyond_limits, entry_of}
+use Rattle.rules.specs.Figures.{estimate, counted_estimate, is_estimated, estimates, figure, generated_figures, load, load_from_gate, share_on, supplied_figure, supplied_sum, weight, weights}
+use Rattle.rules.specs.History.{History, Setting, covering_reading, gate_of}
 use Rattle.rules.specs.declared.call.Call.{Call}
 use Rattle.rules.specs.declared.call.Call.TheVariants.{Enrol, EnterGate, EnterInterval, EnterDegreeDays, EnterReading, AskFigure, AskDay, AskRetailer}
 use Rattle.rules.specs.declared.entry.Entry.{Entry}
 use Rattle.rules.specs.declared.entry.Entry.TheVariants.{Enrolled, GateEntered, IntervalEntered, DegreeDaysEntered, ReadingTaken}
 use Rattle.rules.specs.declared.entry.GateDay.{GateDay}
 use Rattle.rules.specs.declared.entry.Reading.{Reading}
-use Rattle.rules.specs.Held.{Held}
-use Rattle.rules.proofs.Accepted.{accepted}
-use Rattle.rules.proofs.EndToEnd.{end_to_end}
-use Rattle.rules.proofs.InBook.{held_in_book}
-use Rattle.rules.proofs.LastCovering.{covering_held}
-use Rattle.rules.proofs.Balanced.{scaling_only_lowers}
+use Rattle.rules.specs.Readings.{Holds}
+use Rattle.rules.proofs.AcceptedEntries.{accepted, held_in_book}
+use Rattle.rules.proofs.HeldReadings.{end_to_end, covering_held}
+use Rattle.rules.proofs.Balance.{scaling_only_lowers}
 
 -- a share is at most the whole amount
 pub share_most : (c : ℕ) (ws : List ℕ) (k : ℕ) → 0 < sum ws → get_or (shares c ws) k 0 ≤ c
@@ -63,7 +61,7 @@ weights_positive s h r ahead =
     omega (arith, first, in_sum, weight_positive s h r.start)
 
 -- a held reading keeps within the limits of the book
-pub held_within : (s : Setting) (h : History) → Lawful s h → (r : Reading) → Held h r
+pub held_within : (s : Setting) (h : History) → IsLawful s h → (r : Reading) → Holds h r
     → (1 ≤ r.point) × (r.point ≤ s.points) × (r.start < r.end) × (r.end ≤ s.days) × (r.energy ≤ 10000000)
 held_within s h lawful r a =
     let limits = (held_in_book s h lawful r a).within in
@@ -71,21 +69,21 @@ held_within s h lawful r a =
 
 -- Supplied figures.
 
-pub share_bounded : (s : Setting) (h : History) → Lawful s h → (p d : ℕ) (r : Reading) → covering h p d ≡ Some r → share_on s h d r ≤ 10000000
+pub share_bounded : (s : Setting) (h : History) → IsLawful s h → (p d : ℕ) (r : Reading) → covering_reading h p d ≡ Some r → share_on s h d r ≤ 10000000
 share_bounded s h lawful p d r cover =
     let limits = held_within s h lawful r (covering_held s h lawful p d r cover).0 in
     omega (arith, limits.4, share_most r.energy (weights s h r) (d - r.start) (weights_positive s h r limits.2))
 
-pub supplied_bounded : (s : Setting) (h : History) → Lawful s h → (p d : ℕ) → unwrap_or (supplied s h p d) 0 ≤ 10000000
-supplied_bounded s h lawful p d = go (covering h p d) refl
+pub supplied_bounded : (s : Setting) (h : History) → IsLawful s h → (p d : ℕ) → unwrap_or (supplied_figure s h p d) 0 ≤ 10000000
+supplied_bounded s h lawful p d = go (covering_reading h p d) refl
   where
-    go : (o : Option Reading) → covering h p d ≡ o → unwrap_or (option_map (share_on s h d) o) 0 ≤ 10000000
+    go : (o : Option Reading) → covering_reading h p d ≡ o → unwrap_or (option_map (share_on s h d) o) 0 ≤ 10000000
     go None e = omega arith
     go (Some r) e = share_bounded s h lawful p d r e
 
-pub supplied_sum_bounded : (s : Setting) (h : History) → Lawful s h → s.points ≤ 256 → (d : ℕ) → supplied_sum s h d ≤ 2560000000
+pub supplied_sum_bounded : (s : Setting) (h : History) → IsLawful s h → s.points ≤ 256 → (d : ℕ) → supplied_sum s h d ≤ 2560000000
 supplied_sum_bounded s h lawful few d =
-    omega (arith, sum_bounded (λ p. unwrap_or (supplied s h p d) 0) 10000000 1 s.points (λ p low high. supplied_bounded s h lawful p d))
+    omega (arith, sum_bounded (λ p. unwrap_or (supplied_figure s h p d) 0) 10000000 1 s.points (λ p low high. supplied_bounded s h lawful p d))
 
 -- Figures.
 
@@ -101,16 +99,16 @@ estimates_bounded s h d most k =
     (λ low.
     omega (
       arith,
-      get_or-map-range_with_len (λ p. estimate_counted s h p d) 1 s.points k (k + 1) 0 low (omega arith),
-      counted_bounded (estimated h (k + 1) d) (estimate s h (k + 1) d) (most (k + 1)),
+      get_or-map-range_with_len (λ p. counted_estimate s h p d) 1 s.points k (k + 1) 0 low (omega arith),
+      counted_bounded (is_estimated h (k + 1) d) (estimate s h (k + 1) d) (most (k + 1)),
     ))
-    (λ high. omega (arith, get_or_past (estimates s h d) k 0 (omega (arith, length-map-range_with_len (λ p. estimate_counted s h p d) 1 s.points))))
+    (λ high. omega (arith, get_or_past (estimates s h d) k 0 (omega (arith, length-map-range_with_len (λ p. counted_estimate s h p d) 1 s.points))))
     (cases_lt k s.points)
 
-pub figure_bounded : (s : Setting) (h : History) → Lawful s h → (d : ℕ) → ((p x : ℕ) → estimate s h p d ≡ Some x → x ≤ 1000000) → (p : ℕ) → figure s h p d ≤ 10000000
-figure_bounded s h lawful d most p = go (covering h p d) refl
+pub figure_bounded : (s : Setting) (h : History) → IsLawful s h → (d : ℕ) → ((p x : ℕ) → estimate s h p d ≡ Some x → x ≤ 1000000) → (p : ℕ) → figure s h p d ≤ 10000000
+figure_bounded s h lawful d most p = go (covering_reading h p d) refl
   where
-    go : (o : Option Reading) → covering h p d ≡ o → unwrap_or (option_map (share_on s h d) o) (get_or (generated s h d) (p - 1) 0) ≤ 10000000
+    go : (o : Option Reading) → covering_reading h p d ≡ o → unwrap_or (option_map (share_on s h d) o) (get_or (generated_figures s h d) (p - 1) 0) ≤ 10000000
     go None e = omega (arith, scaling_only_lowers s h d (p - 1), estimates_bounded s h d most (p - 1))
     go (Some r) e = share_bounded s h lawful p d r e
 
@@ -130,7 +128,7 @@ entry_within (Some (IntervalEntered day meter energy)) = true
 entry_within (Some (DegreeDaysEntered day count)) = true
 entry_within (Some (ReadingTaken r)) = true
 
-within_limits : (s : Setting) (c : Call) → beyond_limits s c ≡ false → entry_within (entry_of s c) ≡ true
+within_limits : (s : Setting) (c : Call) → is_beyond_limits s c ≡ false → entry_within (entry_of s c) ≡ true
 within_limits s (Enrol point retailer start) e = refl
 within_limits s (EnterGate date energy_in energy_out) e =
     (and_parts (leb energy_in largest_gate) (leb energy_out largest_gate) (not-false (leb energy_in largest_gate && leb energy_out largest_gate) e)).0
@@ -145,7 +143,7 @@ either_within : (b : Bool) (gate : GateDay) (o : Option GateDay) → gate_within
 either_within true gate o here later = here
 either_within false gate o here later = later
 
-gates_within : (s : Setting) (h : History) (d : ℕ) → Lawful s h → gate_within (gate_of h d) ≡ true
+gates_within : (s : Setting) (h : History) (d : ℕ) → IsLawful s h → gate_within (gate_of h d) ≡ true
 gates_within s [] d lawful = refl
 gates_within s (Enrolled q e ∷ h) d lawful = gates_within s h d lawful.0
 gates_within s (GateEntered day gate ∷ h) d lawful =
@@ -157,18 +155,18 @@ gates_within s (DegreeDaysEntered day count ∷ h) d lawful = gates_within s h d
 gates_within s (ReadingTaken r ∷ h) d lawful = gates_within s h d lawful.0
 
 -- a load is at most what came in through the gate
-pub load_bounded : (s : Setting) (h : History) → Lawful s h → (d n : ℕ) → load s h d ≡ Some n → n ≤ 1000000000
+pub load_bounded : (s : Setting) (h : History) → IsLawful s h → (d n : ℕ) → load s h d ≡ Some n → n ≤ 1000000000
 load_bounded s h lawful d n loaded = go (gate_of h d) (gates_within s h d lawful) loaded
   where
-    go : (o : Option GateDay) → gate_within o ≡ true → option_map (load_by s h d) o ≡ Some n → n ≤ 1000000000
+    go : (o : Option GateDay) → gate_within o ≡ true → option_map (load_from_gate s h d) o ≡ Some n → n ≤ 1000000000
     go None within e = omega (arith, ap (λ x. unwrap_or x 0) e)
     go (Some gate) within e =
-        let is : load_by s h d gate ≡ n = ap (λ x. unwrap_or x 0) e in
+        let is : load_from_gate s h d gate ≡ n = ap (λ x. unwrap_or x 0) e in
         omega (arith, leb-true gate.energy_in largest_gate within, is)
 
 -- Sharing.
 
-pub reading_shareable : (s : Setting) (h : History) → Lawful s h → s.days ≤ 400 → (r : Reading) → Held h r → can_share 1000000000 r.energy (weights s h r) ≡ true
+pub reading_shareable : (s : Setting) (h : History) → IsLawful s h → s.days ≤ 400 → (r : Reading) → Holds h r → can_share 1000000000 r.energy (weights s h r) ≡ true
 reading_shareable s h lawful few r a =
     let limits = held_within s h lawful r a in
     let rows : length (weights s h r) ≤ 400 = omega (arith, length_weights s h r, limits.3) in

@@ -1,4 +1,4 @@
-use Rattle.rules.proofs.Ordered.{covering_by_readings, same_sheet}
+use Rattle.rules.proofs.Days.{covering_by_readings, same_sheet}
 use Rattle.rules.proofs.figure_laws.latest_entries_decide.Goals as goal
 
 pub returns : goal.returns

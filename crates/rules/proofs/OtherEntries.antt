@@ -2,17 +2,17 @@
 use Rattle.std.proofs.Common.{◌≡◌, ℕ, Bool, true, false, cond, not, ◌&&◌, ◌||◌, eqb, leb, List, [], ◌∷◌, Some, None, filter, sym, refl, ap, ◌∙◌}
 use Rattle.std.specs.Option.{option_or}
 use Rattle.std.proofs.lemmas.Bool.{and_left, cond-false, not-false, true≢false}
-use Rattle.rules.specs.Calls.{after_all_marks, started_before}
-use Rattle.rules.specs.History.{History, covering, covers, enrolment_of}
-use Rattle.rules.specs.Readings.{held_of, mark, replaces, some_reading, starts}
+use Rattle.rules.specs.Calls.{is_after_all_marks, has_begun_before}
+use Rattle.rules.specs.History.{History, covering_reading, covers, enrolment_of}
+use Rattle.rules.specs.Readings.{held_readings, is_mark, replaces, starts_on, is_enrolment_of, held_readings_of, is_reading, is_reading_of}
+use Rattle.std.specs.List.{list_any}
 use Rattle.rules.specs.declared.entry.Entry.{Entry}
 use Rattle.rules.specs.declared.entry.Entry.TheVariants.{Enrolled, GateEntered, IntervalEntered, DegreeDaysEntered, ReadingTaken}
 use Rattle.rules.specs.declared.entry.Reading.{Reading}
-use Rattle.rules.specs.Held.{enrols, held_by, is_reading, reads}
-use Rattle.rules.specs.ReadingLaws.{Leaves}
-use Rattle.rules.proofs.Spans.{replaces_facts}
+use Rattle.rules.specs.ReadingLaws.{LeavesOthers}
+use Rattle.rules.proofs.Readings.{replaces_facts}
 
-pub held_stays : (e : Entry) (h : History) → is_reading e ≡ false → held_of (e ∷ h) ≡ held_of h
+pub held_stays : (e : Entry) (h : History) → is_reading e ≡ false → held_readings (e ∷ h) ≡ held_readings h
 held_stays (Enrolled point enrolment) h no_reading = refl
 held_stays (GateEntered day gate) h no_reading = refl
 held_stays (IntervalEntered day meter energy) h no_reading = refl
@@ -32,25 +32,25 @@ others_kept r p other (o ∷ os) =
     ap (λ q. eqb q p) (sym (replaces_facts r o (not-false (replaces r o) gone)).0) ∙ other)
     (others_kept r p other os)
 
-pub held_by_stays : (e : Entry) (h : History) (p : ℕ) → reads p e ≡ false → held_by (e ∷ h) p ≡ held_by h p
+pub held_by_stays : (e : Entry) (h : History) (p : ℕ) → is_reading_of p e ≡ false → held_readings_of (e ∷ h) p ≡ held_readings_of h p
 held_by_stays (Enrolled point enrolment) h p other = refl
 held_by_stays (GateEntered day gate) h p other = refl
 held_by_stays (IntervalEntered day meter energy) h p other = refl
 held_by_stays (DegreeDaysEntered day count) h p other = refl
 held_by_stays (ReadingTaken r) h p other =
-    let rest = filter (λ old. not (replaces r old)) (held_of h) in
+    let rest = filter (λ old. not (replaces r old)) (held_readings h) in
     cond-false (eqb r.point p) (r ∷ filter (λ x. eqb x.point p) rest) (filter (λ x. eqb x.point p) rest) other
-    ∙ others_kept r p other (held_of h)
+    ∙ others_kept r p other (held_readings h)
 
-pub covering_stays : (e : Entry) (h : History) (p d : ℕ) → reads p e ≡ false → covering (e ∷ h) p d ≡ covering h p d
+pub covering_stays : (e : Entry) (h : History) (p d : ℕ) → is_reading_of p e ≡ false → covering_reading (e ∷ h) p d ≡ covering_reading h p d
 covering_stays (Enrolled point enrolment) h p d other = refl
 covering_stays (GateEntered day gate) h p d other = refl
 covering_stays (IntervalEntered day meter energy) h p d other = refl
 covering_stays (DegreeDaysEntered day count) h p d other = refl
 covering_stays (ReadingTaken r) h p d other =
-    ap (λ o. option_or o (covering h p d)) (cond-false (covers r p d) (Some r) None (and_left (eqb r.point p) _ other))
+    ap (λ o. option_or o (covering_reading h p d)) (cond-false (covers r p d) (Some r) None (and_left (eqb r.point p) _ other))
 
-pub enrolment_stays : (e : Entry) (h : History) (p : ℕ) → enrols p e ≡ false → enrolment_of (e ∷ h) p ≡ enrolment_of h p
+pub enrolment_stays : (e : Entry) (h : History) (p : ℕ) → is_enrolment_of p e ≡ false → enrolment_of (e ∷ h) p ≡ enrolment_of h p
 enrolment_stays (Enrolled point enrolment) h p other = ap (λ o. option_or o (enrolment_of h p)) (cond-false (eqb point p) (Some enrolment) None other)
 enrolment_stays (GateEntered day gate) h p other = refl
 enrolment_stays (IntervalEntered day meter energy) h p other = refl
@@ -58,30 +58,30 @@ enrolment_stays (DegreeDaysEntered day count) h p other = refl
 enrolment_stays (ReadingTaken r) h p other = refl
 
 -- a test on the readings of a point is one on those that it holds
-by_point : (b : Bool) (test : Reading → Bool) (o : Reading) (rest : Bool) (ks : List Reading) → rest ≡ some_reading test ks → ((b && test o) || rest) ≡ some_reading test (cond b (o ∷ ks) ks)
+by_point : (b : Bool) (test : Reading → Bool) (o : Reading) (rest : Bool) (ks : List Reading) → rest ≡ list_any test ks → ((b && test o) || rest) ≡ list_any test (cond b (o ∷ ks) ks)
 by_point true test o rest ks same = ap (λ x. test o || x) same
 by_point false test o rest ks same = same
 
-pub some_by_point : (p : ℕ) (test : Reading → Bool) (rs : List Reading) → some_reading (λ r. eqb r.point p && test r) rs ≡ some_reading test (filter (λ r. eqb r.point p) rs)
+pub some_by_point : (p : ℕ) (test : Reading → Bool) (rs : List Reading) → list_any (λ r. eqb r.point p && test r) rs ≡ list_any test (filter (λ r. eqb r.point p) rs)
 some_by_point p test [] = refl
 some_by_point p test (o ∷ os) =
-    by_point (eqb o.point p) test o (some_reading (λ r. eqb r.point p && test r) os) (filter (λ r. eqb r.point p) os) (some_by_point p test os)
+    by_point (eqb o.point p) test o (list_any (λ r. eqb r.point p && test r) os) (filter (λ r. eqb r.point p) os) (some_by_point p test os)
 
-pub test_stays : (e : Entry) (h : History) (p : ℕ) (test : Reading → Bool) → reads p e ≡ false → some_reading (λ r. eqb r.point p && test r) (held_of (e ∷ h)) ≡ some_reading (λ r. eqb r.point p && test r) (held_of h)
+pub test_stays : (e : Entry) (h : History) (p : ℕ) (test : Reading → Bool) → is_reading_of p e ≡ false → list_any (λ r. eqb r.point p && test r) (held_readings (e ∷ h)) ≡ list_any (λ r. eqb r.point p && test r) (held_readings h)
 test_stays e h p test other =
-    some_by_point p test (held_of (e ∷ h)) ∙ ap (some_reading test) (held_by_stays e h p other) ∙ sym (some_by_point p test (held_of h))
+    some_by_point p test (held_readings (e ∷ h)) ∙ ap (list_any test) (held_by_stays e h p other) ∙ sym (some_by_point p test (held_readings h))
 
-pub marks_stay : (e : Entry) (h : History) (p m : ℕ) → enrols p e ≡ false → reads p e ≡ false → mark (e ∷ h) p m ≡ mark h p m
+pub marks_stay : (e : Entry) (h : History) (p m : ℕ) → is_enrolment_of p e ≡ false → is_reading_of p e ≡ false → is_mark (e ∷ h) p m ≡ is_mark h p m
 marks_stay e h p m not_enrols not_reads =
-    ap (λ o. starts o m || some_reading (λ r. eqb r.point p && eqb r.end m) (held_of (e ∷ h))) (enrolment_stays e h p not_enrols)
-    ∙ ap (λ b. starts (enrolment_of h p) m || b) (test_stays e h p (λ r. eqb r.end m) not_reads)
+    ap (λ o. starts_on o m || list_any (λ r. eqb r.point p && eqb r.end m) (held_readings (e ∷ h))) (enrolment_stays e h p not_enrols)
+    ∙ ap (λ b. starts_on (enrolment_of h p) m || b) (test_stays e h p (λ r. eqb r.end m) not_reads)
 
-pub last_mark_stays : (e : Entry) (h : History) (p m : ℕ) → enrols p e ≡ false → reads p e ≡ false → after_all_marks (e ∷ h) p m ≡ after_all_marks h p m
+pub last_mark_stays : (e : Entry) (h : History) (p m : ℕ) → is_enrolment_of p e ≡ false → is_reading_of p e ≡ false → is_after_all_marks (e ∷ h) p m ≡ is_after_all_marks h p m
 last_mark_stays e h p m not_enrols not_reads =
-    ap (λ o. started_before o m && not (some_reading (λ r. eqb r.point p && leb m r.end) (held_of (e ∷ h)))) (enrolment_stays e h p not_enrols)
-    ∙ ap (λ b. started_before (enrolment_of h p) m && not b) (test_stays e h p (λ r. leb m r.end) not_reads)
+    ap (λ o. has_begun_before o m && not (list_any (λ r. eqb r.point p && leb m r.end) (held_readings (e ∷ h)))) (enrolment_stays e h p not_enrols)
+    ∙ ap (λ b. has_begun_before (enrolment_of h p) m && not b) (test_stays e h p (λ r. leb m r.end) not_reads)
 
-pub leaves : (e : Entry) (h : History) → Leaves e h
+pub leaves : (e : Entry) (h : History) → LeavesOthers e h
 leaves e h = record {
   held_stays = held_stays e h;
   held_by_stays = held_by_stays e h;
