@@ -32,7 +32,8 @@ exceeded_means a g (Some n) e =
     (ltb-true n (a + g) both.0, ltb-true 0 g both.1)
 
 -- a scaled estimate never exceeds its estimate
-pub scaling_only_lowers : (s : Setting) (h : History) (d k : ℕ) → get_or (generated_figures s h d) k 0 ≤ get_or (estimates s h d) k 0
+pub scaling_only_lowers : (s : Setting) (h : History) (d k : ℕ)
+    → get_or (generated_figures s h d) k 0 ≤ get_or (estimates s h d) k 0
 scaling_only_lowers s h d k =
     cond_both (needs_scaling (supplied_sum s h d) (estimates_sum s h d) (load s h d))
     (shares (unwrap_or (load s h d) 0 - supplied_sum s h d) (estimates s h d)) (estimates s h d)
@@ -52,10 +53,14 @@ length_generated s h d =
     (λ _. length_shares (unwrap_or (load s h d) 0 - supplied_sum s h d) (estimates s h d) ∙ all) (λ _. all)
 
 -- a figure is what is supplied and what is generated, one of which is 0
-pub figure_parts : (s : Setting) (h : History) (p d : ℕ) → 0 < p → figure s h p d ≡ unwrap_or (supplied_figure s h p d) 0 + get_or (generated_figures s h d) (p - 1) 0
+pub figure_parts : (s : Setting) (h : History) (p d : ℕ)
+    → 0 < p → figure s h p d ≡ unwrap_or (supplied_figure s h p d) 0 + get_or (generated_figures s h d) (p - 1) 0
 figure_parts s h p d above = go (covering_reading h p d) refl
   where
-    go : (o : Option Reading) → covering_reading h p d ≡ o → unwrap_or (option_map (share_on s h d) (covering_reading h p d)) (get_or (generated_figures s h d) (p - 1) 0) ≡ unwrap_or (option_map (share_on s h d) (covering_reading h p d)) 0 + get_or (generated_figures s h d) (p - 1) 0
+    go : (o : Option Reading)
+        → covering_reading h p d ≡ o
+        → unwrap_or (option_map (share_on s h d) (covering_reading h p d)) (get_or (generated_figures s h d) (p - 1) 0)
+        ≡ unwrap_or (option_map (share_on s h d) (covering_reading h p d)) 0 + get_or (generated_figures s h d) (p - 1) 0
     go None e =
         rw e (omega arith)
     go (Some r) e =
@@ -65,41 +70,55 @@ figure_parts s h p d above = go (covering_reading h p d) refl
 -- all figures are the supplied and the generated ones
 pub two_kinds : (s : Setting) (h : History) (d : ℕ) → figures_sum s h d ≡ supplied_sum s h d + generated_sum s h d
 two_kinds s h d =
-    ap sum (map_over (λ p. figure s h p d) (λ p. unwrap_or (supplied_figure s h p d) 0 + get_or (generated_figures s h d) (p - 1) 0) 1 s.points (λ p low high. figure_parts s h p d low))
-    ∙ sum_added (λ p. unwrap_or (supplied_figure s h p d) 0) (λ p. get_or (generated_figures s h d) (p - 1) 0) (points_of s)
-    ∙ ap (λ row. supplied_sum s h d + sum row) (row_from_one (generated_figures s h d) s.points (length_generated s h d))
+    ap sum (map_over (λ p. figure s h p d)
+    (λ p. unwrap_or (supplied_figure s h p d) 0 + get_or (generated_figures s h d) (p - 1) 0) 1 s.points
+    (λ p low high. figure_parts s h p d low))
+    ∙ sum_added (λ p. unwrap_or (supplied_figure s h p d) 0) (λ p. get_or (generated_figures s h d) (p - 1) 0)
+    (points_of s)
+    ∙ ap (λ row. supplied_sum s h d + sum row)
+    (row_from_one (generated_figures s h d) s.points (length_generated s h d))
 
 -- a day of supplied sum a, estimates' sum g, load n and generated sum made, where estimates are scaled as b says
-account : (a g n made : ℕ) (b : Bool) → (b ≡ true → (n < a + g) × (made ≡ n - a)) → (b ≡ false → ((a + g ≤ n) ⊎ (g ≤ 0)) × (made ≡ g))
+account : (a g n made : ℕ) (b : Bool)
+    → (b ≡ true → (n < a + g) × (made ≡ n - a)) → (b ≡ false → ((a + g ≤ n) ⊎ (g ≤ 0)) × (made ≡ g))
     → ((a + made) + (n - (a + made)) ≡ n + (a - n)) × (0 < n - (a + made) → 0 < a - n → ⊥)
 account a g n made true scaled kept =
     let (above, met) = scaled refl in
     (omega (arith, above, met), λ r x. omega (arith, above, met))
 account a g n made false scaled kept =
     let (below, met) = kept refl in
-    ⊎_elim (λ l. (omega (arith, met), λ r x. omega (arith, met))) (λ l. (omega (arith, met), λ r x. omega (arith, met))) below
+    ⊎_elim (λ l. (omega (arith, met), λ r x. omega (arith, met)))
+    (λ l. (omega (arith, met), λ r x. omega (arith, met))) below
 
 -- where estimates are scaled they come to what the load leaves beside supplied energy
-pub generated_scaled : (s : Setting) (h : History) (d : ℕ) → needs_scaling (supplied_sum s h d) (estimates_sum s h d) (load s h d) ≡ true
+pub generated_scaled : (s : Setting) (h : History) (d : ℕ)
+    → needs_scaling (supplied_sum s h d) (estimates_sum s h d) (load s h d) ≡ true
     → generated_sum s h d ≡ unwrap_or (load s h d) 0 - supplied_sum s h d
 generated_scaled s h d scaled =
     let means = exceeded_means (supplied_sum s h d) (estimates_sum s h d) (load s h d) scaled in
-    ap sum (cond-true (needs_scaling (supplied_sum s h d) (estimates_sum s h d) (load s h d)) (shares (unwrap_or (load s h d) 0 - supplied_sum s h d) (estimates s h d)) (estimates s h d) scaled)
+    ap sum (cond-true (needs_scaling (supplied_sum s h d) (estimates_sum s h d) (load s h d))
+    (shares (unwrap_or (load s h d) 0 - supplied_sum s h d) (estimates s h d)) (estimates s h d) scaled)
     ∙ sum_shares (unwrap_or (load s h d) 0 - supplied_sum s h d) (estimates s h d) means.1
 
 -- where they are not they stand
-pub generated_kept : (s : Setting) (h : History) (d : ℕ) → needs_scaling (supplied_sum s h d) (estimates_sum s h d) (load s h d) ≡ false
+pub generated_kept : (s : Setting) (h : History) (d : ℕ)
+    → needs_scaling (supplied_sum s h d) (estimates_sum s h d) (load s h d) ≡ false
     → generated_sum s h d ≡ estimates_sum s h d
 generated_kept s h d kept =
-    ap sum (cond-false (needs_scaling (supplied_sum s h d) (estimates_sum s h d) (load s h d)) (shares (unwrap_or (load s h d) 0 - supplied_sum s h d) (estimates s h d)) (estimates s h d) kept)
+    ap sum (cond-false (needs_scaling (supplied_sum s h d) (estimates_sum s h d) (load s h d))
+    (shares (unwrap_or (load s h d) 0 - supplied_sum s h d) (estimates s h d)) (estimates s h d) kept)
 
 -- each day with a load balances
 pub balances : (s : Setting) (h : History) (d n : ℕ) → load s h d ≡ Some n → Balances s h d n
 balances s h d n loaded =
     let kinds = two_kinds s h d in
     let sums =
-    account (supplied_sum s h d) (estimates_sum s h d) n (generated_sum s h d) (needs_scaling (supplied_sum s h d) (estimates_sum s h d) (load s h d))
-    (λ scaled. (above s h d n loaded scaled, generated_scaled s h d scaled ∙ ap (λ o. unwrap_or o 0 - supplied_sum s h d) loaded))
+    account (supplied_sum s h d) (estimates_sum s h d) n (generated_sum s h d)
+    (needs_scaling (supplied_sum s h d) (estimates_sum s h d) (load s h d))
+    (λ scaled. (
+      above s h d n loaded scaled,
+      generated_scaled s h d scaled ∙ ap (λ o. unwrap_or o 0 - supplied_sum s h d) loaded,
+    ))
     (λ kept. (below s h d n loaded kept, generated_kept s h d kept)) in
     record {
       two_kinds = kinds;
@@ -107,24 +126,45 @@ balances s h d n loaded =
       never_both = subst (λ f. 0 < n - f → 0 < supplied_sum s h d - n → ⊥) (sym kinds) sums.1;
     }
   where
-    above : (s : Setting) (h : History) (d n : ℕ) → load s h d ≡ Some n → needs_scaling (supplied_sum s h d) (estimates_sum s h d) (load s h d) ≡ true → n < supplied_sum s h d + estimates_sum s h d
+    above : (s : Setting) (h : History) (d n : ℕ)
+        → load s h d ≡ Some n → needs_scaling (supplied_sum s h d) (estimates_sum s h d) (load s h d) ≡ true
+        → n < supplied_sum s h d + estimates_sum s h d
     above s h d n loaded scaled =
-        subst (λ o. unwrap_or o 0 < supplied_sum s h d + estimates_sum s h d) loaded (exceeded_means (supplied_sum s h d) (estimates_sum s h d) (load s h d) scaled).0
+        subst (λ o. unwrap_or o 0 < supplied_sum s h d + estimates_sum s h d) loaded
+        (exceeded_means (supplied_sum s h d) (estimates_sum s h d) (load s h d) scaled).0
 
-    below : (s : Setting) (h : History) (d n : ℕ) → load s h d ≡ Some n → needs_scaling (supplied_sum s h d) (estimates_sum s h d) (load s h d) ≡ false → (supplied_sum s h d + estimates_sum s h d ≤ n) ⊎ (estimates_sum s h d ≤ 0)
+    below : (s : Setting) (h : History) (d n : ℕ)
+        → load s h d ≡ Some n → needs_scaling (supplied_sum s h d) (estimates_sum s h d) (load s h d) ≡ false
+        → (supplied_sum s h d + estimates_sum s h d ≤ n) ⊎ (estimates_sum s h d ≤ 0)
     below s h d n loaded kept =
-        ⊎_elim (λ l. inl (ltb-false n (supplied_sum s h d + estimates_sum s h d) l)) (λ l. inr (ltb-false 0 (estimates_sum s h d) l))
-        (and_cases (ltb n (supplied_sum s h d + estimates_sum s h d)) (ltb 0 (estimates_sum s h d)) (sym (ap (needs_scaling (supplied_sum s h d) (estimates_sum s h d)) loaded) ∙ kept))
+        ⊎_elim (λ l. inl (ltb-false n (supplied_sum s h d + estimates_sum s h d) l))
+        (λ l. inr (ltb-false 0 (estimates_sum s h d) l))
+        (and_cases (ltb n (supplied_sum s h d + estimates_sum s h d)) (ltb 0 (estimates_sum s h d))
+        (sym (ap (needs_scaling (supplied_sum s h d) (estimates_sum s h d)) loaded) ∙ kept))
 
 -- Supplied energy.
 
 -- a covered day shows its reading's share
-pub supplied_shows : (s : Setting) (h : History) (p d : ℕ) (r : Reading) → covering_reading h p d ≡ Some r → figure s h p d ≡ share_on s h d r
-supplied_shows s h p d r cover = ap (λ o. unwrap_or (option_map (share_on s h d) o) (get_or (generated_figures s h d) (p - 1) 0)) cover
+pub supplied_shows : (s : Setting) (h : History) (p d : ℕ) (r : Reading)
+    → covering_reading h p d ≡ Some r → figure s h p d ≡ share_on s h d r
+supplied_shows s h p d r cover =
+    ap (λ o. unwrap_or (option_map (share_on s h d) o) (get_or (generated_figures s h d) (p - 1) 0)) cover
 
 -- supplied figures depend on the opening by its unaccounted-for value alone
-pub supplied_any_estimator : (s t : Setting) (h : History) (p d : ℕ) → s.unaccounted ≡ t.unaccounted → supplied_figure s h p d ≡ supplied_figure t h p d
-supplied_any_estimator s t h p d same = λ i. option_map (λ r. get_or (shares r.energy (map (λ k. loads.weight (unwrap_or (option_map (λ gate. loads.net_load gate.energy_in gate.energy_out (loads.adjusted (interval_total h k) (same i))) (gate_of h k)) 0)) (range_with_len r.start (r.end - r.start)))) (d - r.start) 0) (covering_reading h p d)
+pub supplied_any_estimator : (s t : Setting) (h : History) (p d : ℕ)
+    → s.unaccounted ≡ t.unaccounted → supplied_figure s h p d ≡ supplied_figure t h p d
+supplied_any_estimator s t h p d same = λ i.
+    option_map
+    (λ r.
+    get_or (shares r.energy (map (λ k. loads.weight (unwrap_or (loaded i k) 0)) (range_with_len r.start (r.end - r.start))))
+    (d - r.start) 0)
+    (covering_reading h p d)
+  where
+    loaded : (i : 𝕀) → ℕ → Option ℕ
+    loaded i k =
+        option_map
+        (λ gate. loads.net_load gate.energy_in gate.energy_out (loads.adjusted (interval_total h k) (same i)))
+        (gate_of h k)
 
 -- an enrolment, where there is one, is with a retailer of the area
 abbrev pub with_retailer : Option Enrolment → Bool
@@ -142,7 +182,8 @@ entry_retailer (Some (ReadingTaken r)) = true
 
 within_limits : (s : Setting) (c : Call) → is_beyond_limits s c ≡ false → entry_retailer (entry_of s c) ≡ true
 within_limits s (Enrol point retailer start) e =
-    (and_parts (is_between 1 s.points point) (is_between 1 retailers retailer) (not-false (is_between 1 s.points point && is_between 1 retailers retailer) e)).1
+    (and_parts (is_between 1 s.points point) (is_between 1 retailers retailer)
+    (not-false (is_between 1 s.points point && is_between 1 retailers retailer) e)).1
 within_limits s (EnterGate date energy_in energy_out) e = refl
 within_limits s (EnterInterval date meter energy) e = refl
 within_limits s (EnterDegreeDays date count) e = refl
@@ -151,16 +192,20 @@ within_limits s (AskFigure point date) e = refl
 within_limits s (AskDay date) e = refl
 within_limits s (AskRetailer retailer date) e = refl
 
-either_retailer : (b : Bool) (e : Enrolment) (o : Option Enrolment) → with_retailer (Some e) ≡ true → with_retailer o ≡ true → with_retailer (option_or (cond b (Some e) None) o) ≡ true
+either_retailer : (b : Bool) (e : Enrolment) (o : Option Enrolment)
+    → with_retailer (Some e) ≡ true → with_retailer o ≡ true
+    → with_retailer (option_or (cond b (Some e) None) o) ≡ true
 either_retailer true e o here later = here
 either_retailer false e o here later = later
 
 -- every enrolment of a book is with a retailer of the area
-pub enrolled_with_retailer : (s : Setting) (h : History) (p : ℕ) → IsLawful s h → with_retailer (enrolment_of h p) ≡ true
+pub enrolled_with_retailer : (s : Setting) (h : History) (p : ℕ)
+    → IsLawful s h → with_retailer (enrolment_of h p) ≡ true
 enrolled_with_retailer s [] p lawful = refl
 enrolled_with_retailer s (Enrolled q e ∷ h) p lawful =
     let c = lawful.1.0 in
-    let limits : with_retailer (Some e) ≡ true = ap entry_retailer (sym lawful.1.2) ∙ within_limits s c (accepted s h c lawful.1.1).0 in
+    let limits : with_retailer (Some e) ≡ true =
+    ap entry_retailer (sym lawful.1.2) ∙ within_limits s c (accepted s h c lawful.1.1).0 in
     either_retailer (eqb q p) e (enrolment_of h p) limits (enrolled_with_retailer s h p lawful.0)
 enrolled_with_retailer s (GateEntered day gate ∷ h) p lawful = enrolled_with_retailer s h p lawful.0
 enrolled_with_retailer s (IntervalEntered day meter energy ∷ h) p lawful = enrolled_with_retailer s h p lawful.0
@@ -168,7 +213,9 @@ enrolled_with_retailer s (DegreeDaysEntered day count ∷ h) p lawful = enrolled
 enrolled_with_retailer s (ReadingTaken r ∷ h) p lawful = enrolled_with_retailer s h p lawful.0
 
 -- a figure is counted with one retailer, or is 0
-one_retailer : (o : Option Enrolment) (f : ℕ) → with_retailer o ≡ true → (o ≡ None → f ≡ 0) → sum (map (λ k. cond (belongs_to o k) f 0) (range_with_len 1 retailers)) ≡ f
+one_retailer : (o : Option Enrolment) (f : ℕ)
+    → with_retailer o ≡ true → (o ≡ None → f ≡ 0)
+    → sum (map (λ k. cond (belongs_to o k) f 0) (range_with_len 1 retailers)) ≡ f
 one_retailer None f with_one none = sum_zeros (range_with_len 1 retailers) ∙ sym (none refl)
 one_retailer (Some e) f with_one none =
     let limits = and_parts (leb 1 e.retailer) (leb e.retailer retailers) with_one in
@@ -179,29 +226,42 @@ one_retailer (Some e) f with_one none =
 -- the retailers' day sums come to all figures
 pub retailers_all : (s : Setting) (h : History) (d : ℕ) → IsLawful s h → retailers_sum s h d ≡ figures_sum s h d
 retailers_all s h d lawful =
-    sum_swap (λ k p. cond (belongs_to (enrolment_of h p) k) (figure s h p d) 0) (range_with_len 1 retailers) (points_of s)
-    ∙ ap sum (map_over (λ p. sum (map (λ k. cond (belongs_to (enrolment_of h p) k) (figure s h p d) 0) (range_with_len 1 retailers))) (λ p. figure s h p d) 1 s.points
+    sum_swap (λ k p. cond (belongs_to (enrolment_of h p) k) (figure s h p d) 0) (range_with_len 1 retailers)
+    (points_of s)
+    ∙ ap sum (map_over
+    (λ p. sum (map (λ k. cond (belongs_to (enrolment_of h p) k) (figure s h p d) 0) (range_with_len 1 retailers)))
+    (λ p. figure s h p d) 1 s.points
     (λ p low high.
     one_retailer (enrolment_of h p) (figure s h p d) (enrolled_with_retailer s h p lawful)
     (λ none. figure_before s h p d lawful low (ap (λ o. has_begun o d) none))))
 
-pub retailers_balance : (s : Setting) (h : History) (d n : ℕ) → IsLawful s h → load s h d ≡ Some n → retailers_sum s h d + remainder s h d n ≡ n + excess s h d n
-retailers_balance s h d n lawful loaded = ap (λ f. f + remainder s h d n) (retailers_all s h d lawful) ∙ (balances s h d n loaded).balance
+pub retailers_balance : (s : Setting) (h : History) (d n : ℕ)
+    → IsLawful s h → load s h d ≡ Some n → retailers_sum s h d + remainder s h d n ≡ n + excess s h d n
+retailers_balance s h d n lawful loaded =
+    ap (λ f. f + remainder s h d n) (retailers_all s h d lawful)
+    ∙ (balances s h d n loaded).balance
 
-nothing_supplied : (f : Reading → ℕ) (o : Option Reading) (x : ℕ) → is_some o ≡ false → unwrap_or (option_map f o) x ≡ x
+nothing_supplied : (f : Reading → ℕ) (o : Option Reading) (x : ℕ)
+    → is_some o ≡ false → unwrap_or (option_map f o) x ≡ x
 nothing_supplied f None x none = refl
 nothing_supplied f (Some r) x none = absurd (true≢false none)
 
 -- an estimated point shows its generated figure
-pub figure_generated : (s : Setting) (h : History) (p d : ℕ) → is_estimated h p d ≡ true → figure s h p d ≡ get_or (generated_figures s h d) (p - 1) 0
+pub figure_generated : (s : Setting) (h : History) (p d : ℕ)
+    → is_estimated h p d ≡ true → figure s h p d ≡ get_or (generated_figures s h d) (p - 1) 0
 figure_generated s h p d one =
     nothing_supplied (share_on s h d) (covering_reading h p d) (get_or (generated_figures s h d) (p - 1) 0)
-    (not-true (is_some (covering_reading h p d)) (and_parts (is_active h p d) (not (is_some (covering_reading h p d))) one).1)
+    (not-true (is_some (covering_reading h p d))
+    (and_parts (is_active h p d) (not (is_some (covering_reading h p d))) one).1)
 
-pub shows_estimate : (s : Setting) (h : History) (p d : ℕ) → 0 < p → p ≤ s.points → is_estimated h p d ≡ true → is_scaled s h d ≡ false → figure s h p d ≡ unwrap_or (estimate s h p d) 0
+pub shows_estimate : (s : Setting) (h : History) (p d : ℕ)
+    → 0 < p → p ≤ s.points → is_estimated h p d ≡ true → is_scaled s h d ≡ false
+    → figure s h p d ≡ unwrap_or (estimate s h p d) 0
 shows_estimate s h p d low high one kept =
     figure_generated s h p d one
-    ∙ ap (λ row. get_or row (p - 1) 0) (cond-false (is_scaled s h d) (shares (unwrap_or (load s h d) 0 - supplied_sum s h d) (estimates s h d)) (estimates s h d) kept)
+    ∙ ap (λ row. get_or row (p - 1) 0)
+    (cond-false (is_scaled s h d) (shares (unwrap_or (load s h d) 0 - supplied_sum s h d) (estimates s h d))
+    (estimates s h d) kept)
     ∙ get_or-map-range_with_len (λ q. counted_estimate s h q d) 1 s.points (p - 1) p 0 (omega arith) (omega arith)
     ∙ cond-true (is_estimated h p d) (unwrap_or (estimate s h p d) 0) 0 one
 
@@ -209,4 +269,6 @@ pub shows_share : (s : Setting) (h : History) (p d : ℕ) → is_estimated h p d
     → figure s h p d ≡ get_or (shares (unwrap_or (load s h d) 0 - supplied_sum s h d) (estimates s h d)) (p - 1) 0
 shows_share s h p d one scaled =
     figure_generated s h p d one
-    ∙ ap (λ row. get_or row (p - 1) 0) (cond-true (is_scaled s h d) (shares (unwrap_or (load s h d) 0 - supplied_sum s h d) (estimates s h d)) (estimates s h d) scaled)
+    ∙ ap (λ row. get_or row (p - 1) 0)
+    (cond-true (is_scaled s h d) (shares (unwrap_or (load s h d) 0 - supplied_sum s h d) (estimates s h d))
+    (estimates s h d) scaled)

@@ -34,7 +34,8 @@ share_most c ws k some =
     (λ past. omega (arith, get_or_past (shares c ws) k 0 past)) (cases_lt k (length (shares c ws)))
 
 -- a row of n comes to at most n times its largest
-pub sum_bounded : (f : ℕ → ℕ) (most a n : ℕ) → ((k : ℕ) → a ≤ k → k < a + n → f k ≤ most) → sum (map f (range_with_len a n)) ≤ n * most
+pub sum_bounded : (f : ℕ → ℕ) (most a n : ℕ)
+    → ((k : ℕ) → a ≤ k → k < a + n → f k ≤ most) → sum (map f (range_with_len a n)) ≤ n * most
 sum_bounded f most a n within =
     let each : AllByRecursion (λ k. f k ≤ most) (range_with_len a n)
     = All-from_get_or (λ k. f k ≤ most) (range_with_len a n) 0
@@ -49,14 +50,18 @@ sum_bounded f most a n within =
 pub weight_positive : (s : Setting) (h : History) (d : ℕ) → 0 < weight s h d
 weight_positive s h d =
     let n = unwrap_or (load s h d) 0 in
-    cond_both (eqb n 0) 1 n (λ w. 0 < w) (λ _. omega arith) (λ above. let other = eqb-false n 0 above in ⊎_elim (λ (pos : 0 < n). pos) (λ (none : n ≤ 0). absurd (other (omega arith))) (cases_lt 0 n))
+    cond_both (eqb n 0) 1 n (λ w. 0 < w) (λ _. omega arith)
+    (λ above.
+    let other = eqb-false n 0 above in
+    ⊎_elim (λ (pos : 0 < n). pos) (λ (none : n ≤ 0). absurd (other (omega arith))) (cases_lt 0 n))
 
 pub length_weights : (s : Setting) (h : History) (r : Reading) → length (weights s h r) ≡ r.end - r.start
 length_weights s h r = length-map-range_with_len (weight s h) r.start (r.end - r.start)
 
 pub weights_positive : (s : Setting) (h : History) (r : Reading) → r.start < r.end → 0 < sum (weights s h r)
 weights_positive s h r ahead =
-    let first = get_or-map-range_with_len (weight s h) r.start (r.end - r.start) 0 r.start 0 (omega arith) (omega arith) in
+    let first = get_or-map-range_with_len (weight s h) r.start (r.end - r.start) 0 r.start 0 (omega arith)
+    (omega arith) in
     let in_sum = get_or-le-sum_by (λ x. x) (weights s h r) 0 0 (omega (arith, length_weights s h r)) in
     omega (arith, first, in_sum, weight_positive s h r.start)
 
@@ -69,31 +74,40 @@ held_within s h lawful r a =
 
 -- Supplied figures.
 
-pub share_bounded : (s : Setting) (h : History) → IsLawful s h → (p d : ℕ) (r : Reading) → covering_reading h p d ≡ Some r → share_on s h d r ≤ 10000000
+pub share_bounded : (s : Setting) (h : History)
+    → IsLawful s h → (p d : ℕ) (r : Reading) → covering_reading h p d ≡ Some r → share_on s h d r ≤ 10000000
 share_bounded s h lawful p d r cover =
     let limits = held_within s h lawful r (covering_held s h lawful p d r cover).0 in
     omega (arith, limits.4, share_most r.energy (weights s h r) (d - r.start) (weights_positive s h r limits.2))
 
-pub supplied_bounded : (s : Setting) (h : History) → IsLawful s h → (p d : ℕ) → unwrap_or (supplied_figure s h p d) 0 ≤ 10000000
+pub supplied_bounded : (s : Setting) (h : History)
+    → IsLawful s h → (p d : ℕ) → unwrap_or (supplied_figure s h p d) 0 ≤ 10000000
 supplied_bounded s h lawful p d = go (covering_reading h p d) refl
   where
     go : (o : Option Reading) → covering_reading h p d ≡ o → unwrap_or (option_map (share_on s h d) o) 0 ≤ 10000000
     go None e = omega arith
     go (Some r) e = share_bounded s h lawful p d r e
 
-pub supplied_sum_bounded : (s : Setting) (h : History) → IsLawful s h → s.points ≤ 256 → (d : ℕ) → supplied_sum s h d ≤ 2560000000
+pub supplied_sum_bounded : (s : Setting) (h : History)
+    → IsLawful s h → s.points ≤ 256 → (d : ℕ) → supplied_sum s h d ≤ 2560000000
 supplied_sum_bounded s h lawful few d =
-    omega (arith, sum_bounded (λ p. unwrap_or (supplied_figure s h p d) 0) 10000000 1 s.points (λ p low high. supplied_bounded s h lawful p d))
+    omega (
+      arith,
+      sum_bounded (λ p. unwrap_or (supplied_figure s h p d) 0) 10000000 1 s.points
+          (λ p low high. supplied_bounded s h lawful p d),
+    )
 
 -- Figures.
 
-counted_bounded : (b : Bool) (o : Option ℕ) → ((x : ℕ) → o ≡ Some x → x ≤ 1000000) → cond b (unwrap_or o 0) 0 ≤ 1000000
+counted_bounded : (b : Bool) (o : Option ℕ)
+    → ((x : ℕ) → o ≡ Some x → x ≤ 1000000) → cond b (unwrap_or o 0) 0 ≤ 1000000
 counted_bounded true None most = omega arith
 counted_bounded true (Some x) most = most x refl
 counted_bounded false o most = omega arith
 
 -- the estimates that count keep within the largest
-pub estimates_bounded : (s : Setting) (h : History) (d : ℕ) → ((p x : ℕ) → estimate s h p d ≡ Some x → x ≤ 1000000) → (k : ℕ) → get_or (estimates s h d) k 0 ≤ 1000000
+pub estimates_bounded : (s : Setting) (h : History) (d : ℕ)
+    → ((p x : ℕ) → estimate s h p d ≡ Some x → x ≤ 1000000) → (k : ℕ) → get_or (estimates s h d) k 0 ≤ 1000000
 estimates_bounded s h d most k =
     ⊎_elim
     (λ low.
@@ -102,13 +116,21 @@ estimates_bounded s h d most k =
       get_or-map-range_with_len (λ p. counted_estimate s h p d) 1 s.points k (k + 1) 0 low (omega arith),
       counted_bounded (is_estimated h (k + 1) d) (estimate s h (k + 1) d) (most (k + 1)),
     ))
-    (λ high. omega (arith, get_or_past (estimates s h d) k 0 (omega (arith, length-map-range_with_len (λ p. counted_estimate s h p d) 1 s.points))))
+    (λ high. omega (
+      arith,
+      get_or_past (estimates s h d) k 0
+          (omega (arith, length-map-range_with_len (λ p. counted_estimate s h p d) 1 s.points)),
+    ))
     (cases_lt k s.points)
 
-pub figure_bounded : (s : Setting) (h : History) → IsLawful s h → (d : ℕ) → ((p x : ℕ) → estimate s h p d ≡ Some x → x ≤ 1000000) → (p : ℕ) → figure s h p d ≤ 10000000
+pub figure_bounded : (s : Setting) (h : History)
+    → IsLawful s h → (d : ℕ) → ((p x : ℕ) → estimate s h p d ≡ Some x → x ≤ 1000000) → (p : ℕ)
+    → figure s h p d ≤ 10000000
 figure_bounded s h lawful d most p = go (covering_reading h p d) refl
   where
-    go : (o : Option Reading) → covering_reading h p d ≡ o → unwrap_or (option_map (share_on s h d) o) (get_or (generated_figures s h d) (p - 1) 0) ≤ 10000000
+    go : (o : Option Reading)
+        → covering_reading h p d ≡ o
+        → unwrap_or (option_map (share_on s h d) o) (get_or (generated_figures s h d) (p - 1) 0) ≤ 10000000
     go None e = omega (arith, scaling_only_lowers s h d (p - 1), estimates_bounded s h d most (p - 1))
     go (Some r) e = share_bounded s h lawful p d r e
 
@@ -131,7 +153,8 @@ entry_within (Some (ReadingTaken r)) = true
 within_limits : (s : Setting) (c : Call) → is_beyond_limits s c ≡ false → entry_within (entry_of s c) ≡ true
 within_limits s (Enrol point retailer start) e = refl
 within_limits s (EnterGate date energy_in energy_out) e =
-    (and_parts (leb energy_in largest_gate) (leb energy_out largest_gate) (not-false (leb energy_in largest_gate && leb energy_out largest_gate) e)).0
+    (and_parts (leb energy_in largest_gate) (leb energy_out largest_gate)
+    (not-false (leb energy_in largest_gate && leb energy_out largest_gate) e)).0
 within_limits s (EnterInterval date meter energy) e = refl
 within_limits s (EnterDegreeDays date count) e = refl
 within_limits s (EnterReading delivery) e = refl
@@ -139,7 +162,9 @@ within_limits s (AskFigure point date) e = refl
 within_limits s (AskDay date) e = refl
 within_limits s (AskRetailer retailer date) e = refl
 
-either_within : (b : Bool) (gate : GateDay) (o : Option GateDay) → gate_within (Some gate) ≡ true → gate_within o ≡ true → gate_within (option_or (cond b (Some gate) None) o) ≡ true
+either_within : (b : Bool) (gate : GateDay) (o : Option GateDay)
+    → gate_within (Some gate) ≡ true → gate_within o ≡ true
+    → gate_within (option_or (cond b (Some gate) None) o) ≡ true
 either_within true gate o here later = here
 either_within false gate o here later = later
 
@@ -148,7 +173,8 @@ gates_within s [] d lawful = refl
 gates_within s (Enrolled q e ∷ h) d lawful = gates_within s h d lawful.0
 gates_within s (GateEntered day gate ∷ h) d lawful =
     let c = lawful.1.0 in
-    let limits : gate_within (Some gate) ≡ true = ap entry_within (sym lawful.1.2) ∙ within_limits s c (accepted s h c lawful.1.1).0 in
+    let limits : gate_within (Some gate) ≡ true =
+    ap entry_within (sym lawful.1.2) ∙ within_limits s c (accepted s h c lawful.1.1).0 in
     either_within (eqb day d) gate (gate_of h d) limits (gates_within s h d lawful.0)
 gates_within s (IntervalEntered day meter energy ∷ h) d lawful = gates_within s h d lawful.0
 gates_within s (DegreeDaysEntered day count ∷ h) d lawful = gates_within s h d lawful.0
@@ -166,7 +192,8 @@ load_bounded s h lawful d n loaded = go (gate_of h d) (gates_within s h d lawful
 
 -- Sharing.
 
-pub reading_shareable : (s : Setting) (h : History) → IsLawful s h → s.days ≤ 400 → (r : Reading) → Holds h r → can_share 1000000000 r.energy (weights s h r) ≡ true
+pub reading_shareable : (s : Setting) (h : History)
+    → IsLawful s h → s.days ≤ 400 → (r : Reading) → Holds h r → can_share 1000000000 r.energy (weights s h r) ≡ true
 reading_shareable s h lawful few r a =
     let limits = held_within s h lawful r a in
     let rows : length (weights s h r) ≤ 400 = omega (arith, length_weights s h r, limits.3) in

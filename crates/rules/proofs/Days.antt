@@ -46,8 +46,10 @@ module _ (s : Setting) (h new : History) (d : ℕ) (same : SameParts s h new d) 
   missing_same = λ i. count_by (λ p. same.estimated_same p i && not (is_some (same.estimate_same p i))) (points_of s)
 
   -- the retailers' sums too where points have the same retailers
-  pub retailers_same : ((p : ℕ) → enrolment_of new p ≡ enrolment_of h p) → (k : ℕ) → retailer_sum s new k d ≡ retailer_sum s h k d
-  retailers_same enrolments k = λ i. sum (map (λ p. cond (belongs_to (enrolments p i) k) (figure_same p i) 0) (points_of s))
+  pub retailers_same : ((p : ℕ) → enrolment_of new p ≡ enrolment_of h p)
+      → (k : ℕ) → retailer_sum s new k d ≡ retailer_sum s h k d
+  retailers_same enrolments k = λ i.
+      sum (map (λ p. cond (belongs_to (enrolments p i) k) (figure_same p i) 0) (points_of s))
 
   pub same_day : ((k : ℕ) → retailer_sum s new k d ≡ retailer_sum s h k d) → SameDay s h new d
   same_day retailers = record {
@@ -62,16 +64,20 @@ module _ (s : Setting) (h new : History) (d : ℕ) (same : SameParts s h new d) 
   }
 
 -- a day whose points have the same retailers is told the same where it is made of the same
-pub same_day_enrolled : (s : Setting) (h new : History) (d : ℕ) → ((p : ℕ) → enrolment_of new p ≡ enrolment_of h p) → SameParts s h new d → SameDay s h new d
+pub same_day_enrolled : (s : Setting) (h new : History) (d : ℕ)
+    → ((p : ℕ) → enrolment_of new p ≡ enrolment_of h p) → SameParts s h new d → SameDay s h new d
 same_day_enrolled s h new d enrolments same = same_day s h new d same (retailers_same s h new d same enrolments)
 
 -- A day's load and a reading's share.
 
 -- the load depends on the day's gate entry and interval energies
-pub load_same : (s : Setting) (h new : History) (d : ℕ) → gate_of new d ≡ gate_of h d → ((m : ℕ) → interval_energy new m d ≡ interval_energy h m d) → load s new d ≡ load s h d
+pub load_same : (s : Setting) (h new : History) (d : ℕ)
+    → gate_of new d ≡ gate_of h d → ((m : ℕ) → interval_energy new m d ≡ interval_energy h m d)
+    → load s new d ≡ load s h d
 load_same s h new d gates intervals = λ i.
     option_map
-    (λ gate. loads.net_load gate.energy_in gate.energy_out (loads.adjusted (sum (map (λ m. intervals m i) (range_with_len 1 32))) s.unaccounted))
+    (λ gate. loads.net_load gate.energy_in gate.energy_out
+    (loads.adjusted (sum (map (λ m. intervals m i) (range_with_len 1 32))) s.unaccounted))
     (gates i)
 
 -- a reading's share depends on the loads of the days that it covers
@@ -80,26 +86,35 @@ pub share_same : (s : Setting) (h new : History) (d : ℕ) (r : Reading)
 share_same s h new d r same = λ i. get_or (shares r.energy (rows i)) (d - r.start) 0
   where
     rows : weights s new r ≡ weights s h r
-    rows = map_over (weight s new) (weight s h) r.start (r.end - r.start) (λ k low high. ap (λ o. loads.weight (unwrap_or o 0)) (same k low (omega arith)))
+    rows =
+        map_over (weight s new) (weight s h) r.start (r.end - r.start)
+        (λ k low high. ap (λ o. loads.weight (unwrap_or o 0)) (same k low (omega arith)))
 
 -- the supplied figure depends on the covering reading and its share
 pub supplied_from : (s : Setting) (h new : History) (p d : ℕ) → covering_reading new p d ≡ covering_reading h p d
-    → ((r : Reading) → covering_reading h p d ≡ Some r → share_on s new d r ≡ share_on s h d r) → supplied_figure s new p d ≡ supplied_figure s h p d
+    → ((r : Reading) → covering_reading h p d ≡ Some r → share_on s new d r ≡ share_on s h d r)
+    → supplied_figure s new p d ≡ supplied_figure s h p d
 supplied_from s h new p d cover share =
-    ap (option_map (share_on s new d)) cover ∙ mapped_over (share_on s new d) (share_on s h d) (covering_reading h p d) share
+    ap (option_map (share_on s new d)) cover
+    ∙ mapped_over (share_on s new d) (share_on s h d) (covering_reading h p d) share
 
 -- Points that are not estimated.
 
 -- a point that is not estimated has no estimate that counts
-counted_none : (s : Setting) (h : History) (p d : ℕ) → 0 < p → is_estimated h p d ≡ false → get_or (estimates s h d) (p - 1) 0 ≡ 0
+counted_none : (s : Setting) (h : History) (p d : ℕ)
+    → 0 < p → is_estimated h p d ≡ false → get_or (estimates s h d) (p - 1) 0 ≡ 0
 counted_none s h p d above none =
     ⊎_elim
-    (λ low. get_or-map-range_with_len (λ q. counted_estimate s h q d) 1 s.points (p - 1) p 0 low (omega arith) ∙ cond-false (is_estimated h p d) (unwrap_or (estimate s h p d) 0) 0 none)
-    (λ high. get_or_past (estimates s h d) (p - 1) 0 (omega (arith, length-map-range_with_len (λ q. counted_estimate s h q d) 1 s.points)))
+    (λ low.
+    get_or-map-range_with_len (λ q. counted_estimate s h q d) 1 s.points (p - 1) p 0 low (omega arith)
+    ∙ cond-false (is_estimated h p d) (unwrap_or (estimate s h p d) 0) 0 none)
+    (λ high. get_or_past (estimates s h d) (p - 1) 0
+    (omega (arith, length-map-range_with_len (λ q. counted_estimate s h q d) 1 s.points)))
     (cases_lt (p - 1) s.points)
 
 -- so its generated figure is 0
-pub generated_none : (s : Setting) (h : History) (p d : ℕ) → 0 < p → is_estimated h p d ≡ false → get_or (generated_figures s h d) (p - 1) 0 ≡ 0
+pub generated_none : (s : Setting) (h : History) (p d : ℕ)
+    → 0 < p → is_estimated h p d ≡ false → get_or (generated_figures s h d) (p - 1) 0 ≡ 0
 generated_none s h p d above none =
     let zero_weight = counted_none s h p d above none in
     cond_both (needs_scaling (supplied_sum s h d) (estimates_sum s h d) (load s h d))
@@ -109,11 +124,13 @@ generated_none s h p d above none =
     (λ _. zero_weight)
 
 -- the figure of a point that is not estimated is the supplied one, else 0
-pub figure_supplied : (s : Setting) (h : History) (p d : ℕ) → 0 < p → is_estimated h p d ≡ false → figure s h p d ≡ unwrap_or (supplied_figure s h p d) 0
+pub figure_supplied : (s : Setting) (h : History) (p d : ℕ)
+    → 0 < p → is_estimated h p d ≡ false → figure s h p d ≡ unwrap_or (supplied_figure s h p d) 0
 figure_supplied s h p d above none = ap (unwrap_or (supplied_figure s h p d)) (generated_none s h p d above none)
 
 -- a covered day is not estimated
-pub covered_not_estimated : (h : History) (p d : ℕ) → is_some (covering_reading h p d) ≡ true → is_estimated h p d ≡ false
+pub covered_not_estimated : (h : History) (p d : ℕ)
+    → is_some (covering_reading h p d) ≡ true → is_estimated h p d ≡ false
 covered_not_estimated h p d some = ap (λ b. is_active h p d && not b) some ∙ and_false (is_active h p d)
   where
     and_false : (b : Bool) → (b && false) ≡ false
@@ -132,17 +149,25 @@ covering_is_first (Enrolled point enrolment ∷ h) p d = covering_is_first h p d
 covering_is_first (GateEntered day gate ∷ h) p d = covering_is_first h p d
 covering_is_first (IntervalEntered day meter energy ∷ h) p d = covering_is_first h p d
 covering_is_first (DegreeDaysEntered day count ∷ h) p d = covering_is_first h p d
-covering_is_first (ReadingTaken r ∷ h) p d = ap (option_or (cond (covers r p d) (Some r) None)) (covering_is_first h p d)
+covering_is_first (ReadingTaken r ∷ h) p d =
+    ap (option_or (cond (covers r p d) (Some r) None)) (covering_is_first h p d)
 
 -- histories that accepted the same readings in the same order have the same covering readings
-pub covering_by_readings : (h new : History) → accepted_readings new ≡ accepted_readings h → (p d : ℕ) → covering_reading new p d ≡ covering_reading h p d
-covering_by_readings h new same p d = covering_is_first new p d ∙ ap (λ rs. first_covering rs p d) same ∙ sym (covering_is_first h p d)
+pub covering_by_readings : (h new : History)
+    → accepted_readings new ≡ accepted_readings h → (p d : ℕ) → covering_reading new p d ≡ covering_reading h p d
+covering_by_readings h new same p d =
+    covering_is_first new p d
+    ∙ ap (λ rs. first_covering rs p d) same
+    ∙ sym (covering_is_first h p d)
 
-module _ (s : Setting) (h new : History) (latest_same : SameLatest h new) (covering_same : (p d : ℕ) → covering_reading new p d ≡ covering_reading h p d) where
+module _
+    (s : Setting) (h new : History) (latest_same : SameLatest h new)
+    (covering_same : (p d : ℕ) → covering_reading new p d ≡ covering_reading h p d) where
   parts_same : (d : ℕ) → SameParts s h new d
   parts_same d = record {
     loads_same = loads d;
-    supplied_same = λ p. supplied_from s h new p d (covering_same p d) (λ r _. share_same s h new d r (λ k low high. loads k));
+    supplied_same = λ p. supplied_from s h new p d (covering_same p d)
+        (λ r _. share_same s h new d r (λ k low high. loads k));
     estimated_same = λ p i. has_begun (latest_same.enrolments p i) d && not (is_some (covering_same p d i));
     estimate_same = λ p i. estimate_under s (latest_same.counts d i) p d;
   }

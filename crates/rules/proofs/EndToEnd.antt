@@ -12,15 +12,19 @@ use Rattle.rules.proofs.Readings.{among_kept, apart_kept, apart_two, kept_among,
 
 -- a day is a mark of a point: its start day, or the end of a reading of it
 abbrev pub AtMark : (ℕ → Option Enrolment) → List Reading → ℕ → ℕ → Type 0
-AtMark enrolled readings p m = (starts_on (enrolled p) m ≡ true) ⊎ ((r : Reading) × IsOneOf r readings × (r.point ≡ p) × (r.end ≡ m))
+AtMark enrolled readings p m =
+    (starts_on (enrolled p) m ≡ true) ⊎ ((r : Reading) × IsOneOf r readings × (r.point ≡ p) × (r.end ≡ m))
 
 -- readings that lie end to end from the start day of each point to its last mark, and are the last to cover their days
-pub record IsTiled (enrolled : ℕ → Option Enrolment) (readings : List Reading) (last : ℕ → ℕ → Option Reading) : Type 0 where
+pub record IsTiled
+    (enrolled : ℕ → Option Enrolment) (readings : List Reading) (last : ℕ → ℕ → Option Reading) : Type 0 where
   pub begins : (r : Reading) → IsOneOf r readings → has_begun (enrolled r.point) r.start ≡ true
   pub forward : (r : Reading) → IsOneOf r readings → r.start < r.end
   pub from_mark : (r : Reading) → IsOneOf r readings → AtMark enrolled readings r.point r.start
   pub apart : AreApart readings
-  pub reaches : (p d m : ℕ) → has_begun (enrolled p) d ≡ true → AtMark enrolled readings p m → d < m → (r : Reading) × IsOneOf r readings × (covers r p d ≡ true)
+  pub reaches : (p d m : ℕ)
+      → has_begun (enrolled p) d ≡ true → AtMark enrolled readings p m → d < m
+      → (r : Reading) × IsOneOf r readings × (covers r p d ≡ true)
   pub shown : (p d : ℕ) (r : Reading) → last p d ≡ Some r → IsOneOf r readings × (covers r p d ≡ true)
   pub held_last : (p d : ℕ) (r : Reading) → IsOneOf r readings → covers r p d ≡ true → last p d ≡ Some r
 
@@ -37,11 +41,14 @@ tiled_none enrolled none = record {
 
 -- One more reading: it starts at a mark, and ends after its start, at a mark or later than every reading of its point.
 module _
-    {enrolled : ℕ → Option Enrolment} {readings : List Reading} {last : ℕ → ℕ → Option Reading} (t : IsTiled enrolled readings last) (r : Reading)
+    {enrolled : ℕ → Option Enrolment} {readings : List Reading} {last : ℕ → ℕ → Option Reading}
+    (t : IsTiled enrolled readings last) (r : Reading)
     (start_mark : AtMark enrolled readings r.point r.start) (ahead : r.start < r.end)
-    (end_mark : AtMark enrolled readings r.point r.end ⊎ ((o : Reading) → IsOneOf o readings → o.point ≡ r.point → o.end < r.end)) where
+    (end_mark : AtMark enrolled readings r.point r.end
+    ⊎ ((o : Reading) → IsOneOf o readings → o.point ≡ r.point → o.end < r.end)) where
   -- a mark lies in no reading: it is its start or before, or its end or later
-  mark_outside : (o : Reading) → IsOneOf o readings → (m : ℕ) → AtMark enrolled readings o.point m → (m ≤ o.start) ⊎ (o.end ≤ m)
+  mark_outside : (o : Reading)
+      → IsOneOf o readings → (m : ℕ) → AtMark enrolled readings o.point m → (m ≤ o.start) ⊎ (o.end ≤ m)
   mark_outside o a m (inl start) = inl (starts_first (enrolled o.point) m o.start start (t.begins o a))
   mark_outside o a m (inr end) =
       let other = end.0 in
@@ -59,7 +66,8 @@ module _
   whole o a e =
       let facts = replaces_facts r o e in
       let start_here : AtMark enrolled readings o.point r.start = rw facts.0 at start_mark in
-      let starts_before : r.start ≤ o.start = ⊎_elim (λ x. x) (λ late. absurd (omega (arith, facts.1))) (mark_outside o a r.start start_here) in
+      let starts_before : r.start ≤ o.start =
+      ⊎_elim (λ x. x) (λ late. absurd (omega (arith, facts.1))) (mark_outside o a r.start start_here) in
       let ends_after : o.end ≤ r.end =
       ⊎_elim
       (λ mark. let end_here : AtMark enrolled readings o.point r.end = rw facts.0 at mark in
@@ -106,12 +114,15 @@ module _
       ⊎_elim (λ start. inl start)
       (λ end.
       let other = end.0 in
-      let free : replaces r other ≡ false = not_so (replaces r other) (λ e. omega (arith, (replaces_facts r other e).1, end.3)) in
+      let free : replaces r other ≡ false =
+      not_so (replaces r other) (λ e. omega (arith, (replaces_facts r other e).1, end.3)) in
       inr (other, keep other end.1 free, end.2, end.3))
       start_mark
 
-  -- a mark that a kept reading starts at is one still: where the reading that ended there is replaced, the new one ends there
-  kept_from_mark : (o : Reading) → IsOneOf o readings → replaces r o ≡ false → AtMark enrolled now_held o.point o.start
+  -- a mark that a kept reading starts at is one still: where the reading that ended there is replaced, the new one ends
+  -- there
+  kept_from_mark : (o : Reading)
+      → IsOneOf o readings → replaces r o ≡ false → AtMark enrolled now_held o.point o.start
   kept_from_mark o a free =
       ⊎_elim (λ start. inl start)
       (λ end.
@@ -121,7 +132,8 @@ module _
       let inside = whole other end.1 gone in
       let same : r.point ≡ o.point = (replaces_facts r other gone).0 ∙ end.2 in
       let meets : r.end ≡ o.start =
-      ⊎_elim (λ (before : o.end ≤ r.start). absurd (omega (arith, inside.0, t.forward other end.1, end.3, t.forward o a)))
+      ⊎_elim
+      (λ (before : o.end ≤ r.start). absurd (omega (arith, inside.0, t.forward other end.1, end.3, t.forward o a)))
       (λ (after : r.end ≤ o.start). omega (arith, inside.1, end.3)) (one_before r o same free)
       in
       inr (r, inl refl, same, meets))
@@ -141,19 +153,23 @@ module _
   )
 
   -- a reading that covers a day which the new one does not cover is kept
-  uncovered_kept : (p d : ℕ) → covers r p d ≡ false → (o : Reading) → IsOneOf o readings → covers o p d ≡ true → IsOneOf o now_held
+  uncovered_kept : (p d : ℕ)
+      → covers r p d ≡ false → (o : Reading) → IsOneOf o readings → covers o p d ≡ true → IsOneOf o now_held
   uncovered_kept p d bare o a c =
       ⊎_elim
       (λ gone.
       let inside = whole o a gone in
       let facts = covers_facts o p d c in
       let same : r.point ≡ p = (replaces_facts r o gone).0 ∙ facts.0 in
-      absurd (both_ways (covers r p d) bare (covers_from r p d same (omega (arith, inside.0, facts.1)) (omega (arith, inside.1, facts.2)))))
+      absurd (both_ways (covers r p d) bare
+      (covers_from r p d same (omega (arith, inside.0, facts.1)) (omega (arith, inside.1, facts.2)))))
       (λ stays. keep o a stays)
       (cases_Bool (replaces r o))
 
-  -- a mark that is not the new end was a mark, so the days before it were covered; the days before the new start were too
-  was_reached : (p d m : ℕ) → has_begun (enrolled p) d ≡ true → AtMark enrolled now_held p m → d < m → covers r p d ≡ false → (o : Reading) × IsOneOf o readings × (covers o p d ≡ true)
+  -- a mark that is not the new end was a mark, so the days before it were covered; so were those before the new start
+  was_reached : (p d m : ℕ)
+      → has_begun (enrolled p) d ≡ true → AtMark enrolled now_held p m → d < m → covers r p d ≡ false
+      → (o : Reading) × IsOneOf o readings × (covers o p d ≡ true)
   was_reached p d m b (inl start) h bare = t.reaches p d m b (inl start) h
   was_reached p d m b (inr (o, inl same, at_point, at_end)) h bare =
       let same_point : r.point ≡ p = ap (λ x. x.point) same ∙ at_point in
@@ -162,21 +178,28 @@ module _
       ⊎_elim (λ early. t.reaches p d r.start b start_here early)
       (λ inside. absurd (both_ways (covers r p d) bare (covers_from r p d same_point inside (omega arith))))
       (cases_lt d r.start)
-  was_reached p d m b (inr (o, inr later, at_point, at_end)) h bare = t.reaches p d m b (inr (o, (kept o later).0, at_point, at_end)) h
+  was_reached p d m b (inr (o, inr later, at_point, at_end)) h bare =
+      t.reaches p d m b (inr (o, (kept o later).0, at_point, at_end)) h
 
-  now_reaches : (p d m : ℕ) → has_begun (enrolled p) d ≡ true → AtMark enrolled now_held p m → d < m → (o : Reading) × IsOneOf o now_held × (covers o p d ≡ true)
+  now_reaches : (p d m : ℕ)
+      → has_begun (enrolled p) d ≡ true → AtMark enrolled now_held p m → d < m
+      → (o : Reading) × IsOneOf o now_held × (covers o p d ≡ true)
   now_reaches p d m b mark h =
       ⊎_elim (λ c. (r, inl refl, c))
       (λ bare. let was = was_reached p d m b mark h bare in (was.0, uncovered_kept p d bare was.0 was.1 was.2, was.2))
       (cases_Bool (covers r p d))
 
-  shown_by : (p d : ℕ) (o : Reading) (b : Bool) → covers r p d ≡ b → option_or (cond b (Some r) None) (last p d) ≡ Some o → IsOneOf o now_held × (covers o p d ≡ true)
+  shown_by : (p d : ℕ) (o : Reading) (b : Bool)
+      → covers r p d ≡ b → option_or (cond b (Some r) None) (last p d) ≡ Some o
+      → IsOneOf o now_held × (covers o p d ≡ true)
   shown_by p d o true c e =
       let same : r ≡ o = ap (λ x. unwrap_or x r) e in
       (inl same, ap (λ x. covers x p d) (sym same) ∙ c)
   shown_by p d o false c e = let was = t.shown p d o e in (uncovered_kept p d c o was.0 was.1, was.1)
 
-  last_by : (p d : ℕ) (o : Reading) (b : Bool) → covers r p d ≡ b → IsOneOf o now_held → covers o p d ≡ true → option_or (cond b (Some r) None) (last p d) ≡ Some o
+  last_by : (p d : ℕ) (o : Reading) (b : Bool)
+      → covers r p d ≡ b → IsOneOf o now_held → covers o p d ≡ true
+      → option_or (cond b (Some r) None) (last p d) ≡ Some o
   last_by p d o true c (inl same) oc = ap Some same
   last_by p d o true c (inr later) oc = absurd (both_ways (covers o p d) (shares_none r o p d c (kept o later).1) oc)
   last_by p d o false c (inl same) oc = absurd (both_ways (covers r p d) c (ap (λ x. covers x p d) same ∙ oc))
@@ -195,12 +218,14 @@ module _
 
 -- One more enrolment, of a point that was not enrolled.
 module _
-    {enrolled : ℕ → Option Enrolment} {readings : List Reading} {last : ℕ → ℕ → Option Reading} (t : IsTiled enrolled readings last)
+    {enrolled : ℕ → Option Enrolment} {readings : List Reading} {last : ℕ → ℕ → Option Reading}
+    (t : IsTiled enrolled readings last)
     (point : ℕ) (e : Enrolment) (new : is_some (enrolled point) ≡ false) where
   abbrev pub now_enrolled : ℕ → Option Enrolment
   now_enrolled p = option_or (cond (eqb point p) (Some e) None) (enrolled p)
 
-  same_by : (p : ℕ) (b : Bool) → eqb point p ≡ b → is_some (enrolled p) ≡ true → enrolled p ≡ option_or (cond b (Some e) None) (enrolled p)
+  same_by : (p : ℕ) (b : Bool)
+      → eqb point p ≡ b → is_some (enrolled p) ≡ true → enrolled p ≡ option_or (cond b (Some e) None) (enrolled p)
   same_by p true here some =
       absurd (both_ways (is_some (enrolled point)) new (ap (λ q. is_some (enrolled q)) (eqb-true point p here) ∙ some))
   same_by p false here some = refl
@@ -212,13 +237,17 @@ module _
   begun_now p d b = ap (λ o. has_begun o d) (sym (same_enrolled p (begun_enrolled (enrolled p) d b))) ∙ b
 
   mark_now : (p m : ℕ) → AtMark enrolled readings p m → AtMark now_enrolled readings p m
-  mark_now p m (inl start) = inl (ap (λ o. starts_on o m) (sym (same_enrolled p (starts_enrolled (enrolled p) m start))) ∙ start)
+  mark_now p m (inl start) =
+      inl (ap (λ o. starts_on o m) (sym (same_enrolled p (starts_enrolled (enrolled p) m start))) ∙ start)
   mark_now p m (inr end) = inr end
 
-  reaches_now : (p d m : ℕ) → has_begun (now_enrolled p) d ≡ true → AtMark now_enrolled readings p m → d < m → (r : Reading) × IsOneOf r readings × (covers r p d ≡ true)
+  reaches_now : (p d m : ℕ)
+      → has_begun (now_enrolled p) d ≡ true → AtMark now_enrolled readings p m → d < m
+      → (r : Reading) × IsOneOf r readings × (covers r p d ≡ true)
   reaches_now p d m b (inl start) h = absurd (omega (arith, starts_first (now_enrolled p) m d start b))
   reaches_now p d m b (inr end) h =
-      let begins : has_begun (enrolled p) end.0.start ≡ true = ap (λ q. has_begun (enrolled q) end.0.start) (sym end.2) ∙ t.begins end.0 end.1 in
+      let begins : has_begun (enrolled p) end.0.start ≡ true =
+      ap (λ q. has_begun (enrolled q) end.0.start) (sym end.2) ∙ t.begins end.0 end.1 in
       let same = same_enrolled p (begun_enrolled (enrolled p) end.0.start begins) in
       t.reaches p d m (ap (λ o. has_begun o d) same ∙ b) (inr end) h
 

@@ -30,31 +30,38 @@ at_mark h p m e =
     (or_cases (starts_on (enrolment_of h p) m) (list_any ends (held_readings h)) e)
 
 pub mark_from : (h : History) (p m : ℕ) → AtMark (enrolment_of h) (held_readings h) p m → is_mark h p m ≡ true
-mark_from h p m (inl start) = or_left (starts_on (enrolment_of h p) m) (list_any (λ r. eqb r.point p && eqb r.end m) (held_readings h)) start
+mark_from h p m (inl start) =
+    or_left (starts_on (enrolment_of h p) m) (list_any (λ r. eqb r.point p && eqb r.end m) (held_readings h)) start
 mark_from h p m (inr (r, a, at_point, at_end)) =
     or_right (starts_on (enrolment_of h p) m) (list_any (λ r. eqb r.point p && eqb r.end m) (held_readings h))
     (among_some (λ r. eqb r.point p && eqb r.end m) (held_readings h) r a
     (and_from (eqb r.point p) (eqb r.end m) (eq-eqb r.point p at_point) (eq-eqb r.end m at_end)))
 
 -- a day after all marks is later than the end of every held reading
-pub after_all : (h : History) (p m : ℕ) → is_after_all_marks h p m ≡ true → (o : Reading) → Holds h o → o.point ≡ p → o.end < m
+pub after_all : (h : History) (p m : ℕ)
+    → is_after_all_marks h p m ≡ true → (o : Reading) → Holds h o → o.point ≡ p → o.end < m
 after_all h p m e o a same =
     let late : Reading → Bool = λ r. eqb r.point p && leb m r.end in
     let parts = and_parts (has_begun_before (enrolment_of h p) m) (not (list_any late (held_readings h))) e in
     ⊎_elim (λ (early : o.end < m). early)
     (λ (end : m ≤ o.end).
     absurd (both_ways (list_any late (held_readings h)) (not-true (list_any late (held_readings h)) parts.1)
-    (among_some late (held_readings h) o a (and_from (eqb o.point p) (leb m o.end) (eq-eqb o.point p same) (le-leb m o.end end)))))
+    (among_some late (held_readings h) o a
+    (and_from (eqb o.point p) (leb m o.end) (eq-eqb o.point p same) (le-leb m o.end end)))))
     (cases_lt o.end m)
 
 -- the end that an accepted reading has
-pub end_allowed : (s : Setting) (h : History) (r : Reading) → FitsIn s h r → AtMark (enrolment_of h) (held_readings h) r.point r.end ⊎ ((o : Reading) → Holds h o → o.point ≡ r.point → o.end < r.end)
+pub end_allowed : (s : Setting) (h : History) (r : Reading)
+    → FitsIn s h r
+    → AtMark (enrolment_of h) (held_readings h) r.point r.end
+    ⊎ ((o : Reading) → Holds h o → o.point ≡ r.point → o.end < r.end)
 end_allowed s h r f =
     ⊎_elim (λ at. inl (at_mark h r.point r.end at)) (λ after. inr (after_all h r.point r.end after))
     (or_cases (is_mark h r.point r.end) (is_after_all_marks h r.point r.end) f.end_mark)
 
 -- the readings that a history leaves lie end to end
-pub tiled : (s : Setting) (h : History) → IsLawful s h → IsTiled (λ p. enrolment_of h p) (held_readings h) (λ p d. covering_reading h p d)
+pub tiled : (s : Setting) (h : History)
+    → IsLawful s h → IsTiled (λ p. enrolment_of h p) (held_readings h) (λ p d. covering_reading h p d)
 tiled s [] lawful = tiled_none (λ p. None) (λ p. refl)
 tiled s (Enrolled p e ∷ h) lawful = tiled_enrolled (tiled s h lawful.0) p e (newly_enrolled s h p e lawful)
 tiled s (GateEntered day gate ∷ h) lawful = tiled s h lawful.0
@@ -65,7 +72,9 @@ tiled s (ReadingTaken r ∷ h) lawful =
     tiled_more (tiled s h lawful.0) r (at_mark h r.point r.start f.start_mark) f.ahead (end_allowed s h r f)
 
 -- a held reading that a newly accepted one replaces lies inside it
-pub replaced_whole : (s : Setting) (h : History) (r old : Reading) → IsLawful s (ReadingTaken r ∷ h) → Holds h old → replaces r old ≡ true → (r.start ≤ old.start) × (old.end ≤ r.end)
+pub replaced_whole : (s : Setting) (h : History) (r old : Reading)
+    → IsLawful s (ReadingTaken r ∷ h) → Holds h old → replaces r old ≡ true
+    → (r.start ≤ old.start) × (old.end ≤ r.end)
 replaced_whole s h r old lawful a e =
     let f = fits s h r lawful in
     whole (tiled s h lawful.0) r (at_mark h r.point r.start f.start_mark) f.ahead (end_allowed s h r f) old a e
@@ -75,25 +84,34 @@ module _ (s : Setting) (h : History) (lawful : IsLawful s h) where
   held_ends_at_mark r a = mark_from h r.point r.end (inr (r, a, refl, refl))
 
   -- a held reading covers each day from the start day up to a mark
-  pub reached : (p d m : ℕ) → is_active h p d ≡ true → is_mark h p m ≡ true → d < m → (r : Reading) × Holds h r × (covers r p d ≡ true)
+  pub reached : (p d m : ℕ)
+      → is_active h p d ≡ true → is_mark h p m ≡ true → d < m → (r : Reading) × Holds h r × (covers r p d ≡ true)
   reached p d m b e before = (tiled s h lawful).reaches p d m b (at_mark h p m e) before
 
-  pub covered_to_mark : (p d m : ℕ) → is_active h p d ≡ true → is_mark h p m ≡ true → d < m → is_some (covering_reading h p d) ≡ true
+  pub covered_to_mark : (p d m : ℕ)
+      → is_active h p d ≡ true → is_mark h p m ≡ true → d < m → is_some (covering_reading h p d) ≡ true
   covered_to_mark p d m b e before =
       let found = reached p d m b e before in
       ap is_some ((tiled s h lawful).held_last p d found.0 found.1 found.2)
 
-  pub one_covers : (p d m : ℕ) → is_active h p d ≡ true → is_mark h p m ≡ true → d < m → count_by (λ r. covers r p d) (held_readings h) ≡ 1
+  pub one_covers : (p d m : ℕ)
+      → is_active h p d ≡ true → is_mark h p m ≡ true → d < m → count_by (λ r. covers r p d) (held_readings h) ≡ 1
   one_covers p d m b e before =
       let found = reached p d m b e before in
-      omega (arith, count_apart p d (held_readings h) (tiled s h lawful).apart, count_some (λ r. covers r p d) (held_readings h) found.0 found.1 found.2)
+      omega (
+        arith,
+        count_apart p d (held_readings h) (tiled s h lawful).apart,
+        count_some (λ r. covers r p d) (held_readings h) found.0 found.1 found.2,
+      )
 
   -- a covered day lies between the start day and a mark
-  pub covered_between : (p d : ℕ) (r : Reading) → covering_reading h p d ≡ Some r → (is_active h p d ≡ true) × (is_mark h p r.end ≡ true) × (d < r.end)
+  pub covered_between : (p d : ℕ) (r : Reading)
+      → covering_reading h p d ≡ Some r → (is_active h p d ≡ true) × (is_mark h p r.end ≡ true) × (d < r.end)
   covered_between p d r e =
       let was = (tiled s h lawful).shown p d r e in
       let facts = covers_facts r p d was.1 in
-      let begins : has_begun (enrolment_of h p) r.start ≡ true = ap (λ q. has_begun (enrolment_of h q) r.start) (sym facts.0) ∙ (tiled s h lawful).begins r was.0 in
+      let begins : has_begun (enrolment_of h p) r.start ≡ true =
+      ap (λ q. has_begun (enrolment_of h q) r.start) (sym facts.0) ∙ (tiled s h lawful).begins r was.0 in
       let ends : is_mark h p r.end ≡ true = ap (λ q. is_mark h q r.end) (sym facts.0) ∙ held_ends_at_mark r was.0 in
       (begun_later (enrolment_of h p) r.start d begins facts.1, ends, facts.2)
 
@@ -118,13 +136,16 @@ module _ (s : Setting) (h : History) (lawful : IsLawful s h) where
   pub held_covering : (p d : ℕ) (r : Reading) → Holds h r → covers r p d ≡ true → covering_reading h p d ≡ Some r
   held_covering = (tiled s h lawful).held_last
 
-  none_covering : (p d : ℕ) (o : Option Reading) → covering_reading h p d ≡ o → find (λ r. covers r p d) (held_readings h) ≡ None → covering_reading h p d ≡ None
+  none_covering : (p d : ℕ) (o : Option Reading)
+      → covering_reading h p d ≡ o → find (λ r. covers r p d) (held_readings h) ≡ None
+      → covering_reading h p d ≡ None
   none_covering p d None e none = e
   none_covering p d (Some r) e none =
       let held = covering_held p d r e in
       absurd (first_none (λ x. covers x p d) (held_readings h) r none held.0 held.1)
 
-  first_covering : (p d : ℕ) (o : Option Reading) → find (λ r. covers r p d) (held_readings h) ≡ o → covering_reading h p d ≡ o
+  first_covering : (p d : ℕ) (o : Option Reading)
+      → find (λ r. covers r p d) (held_readings h) ≡ o → covering_reading h p d ≡ o
   first_covering p d None e = none_covering p d (covering_reading h p d) refl e
   first_covering p d (Some r) e =
       let first = first_among (λ x. covers x p d) (held_readings h) r e in
@@ -137,7 +158,8 @@ module _ (s : Setting) (h : History) (lawful : IsLawful s h) where
   covering_some p d = ap is_some (covering_first p d) ∙ first_is_some (λ r. covers r p d) (held_readings h)
 
   -- a reading that is the last on one of its days is the last on all of them
-  pub covering_spans : (p d e : ℕ) (r : Reading) → covering_reading h p d ≡ Some r → covers r p e ≡ true → covering_reading h p e ≡ Some r
+  pub covering_spans : (p d e : ℕ) (r : Reading)
+      → covering_reading h p d ≡ Some r → covers r p e ≡ true → covering_reading h p e ≡ Some r
   covering_spans p d e r last c = held_covering p e r (covering_held p d r last).0 c
 
   pub last_covering : IsCoveredByHeld h
@@ -150,11 +172,14 @@ module _ (s : Setting) (h : History) (lawful : IsLawful s h) where
   }
 
 -- a reading that replaces a firm one is firm
-pub firm_replaced : (s : Setting) (h : History) (r old : Reading) → IsLawful s (ReadingTaken r ∷ h) → Holds h old → replaces r old ≡ true → firm old.reading_type ≡ true → firm r.reading_type ≡ true
+pub firm_replaced : (s : Setting) (h : History) (r old : Reading)
+    → IsLawful s (ReadingTaken r ∷ h) → Holds h old → replaces r old ≡ true → firm old.reading_type ≡ true
+    → firm r.reading_type ≡ true
 firm_replaced s h r old lawful a e f =
     let over : Reading → Bool = λ o. replaces r o && firm o.reading_type in
     ⊎_elim (λ soft. not-false (firm r.reading_type) soft)
-    (λ none. absurd (both_ways (list_any over (held_readings h)) none (among_some over (held_readings h) old a (and_from (replaces r old) (firm old.reading_type) e f))))
+    (λ none. absurd (both_ways (list_any over (held_readings h)) none
+    (among_some over (held_readings h) old a (and_from (replaces r old) (firm old.reading_type) e f))))
     (and_cases (not (firm r.reading_type)) (list_any over (held_readings h)) (fits s h r lawful).over_firm)
 
 pub replacing : (s : Setting) (h : History) (r : Reading) → IsLawful s (ReadingTaken r ∷ h) → ReplacesWholes h r
