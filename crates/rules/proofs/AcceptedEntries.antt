@@ -1,6 +1,4 @@
--- What is known of an entry since its call was accepted. Assumes nothing.
--- Held readings lie in the book, and their days have loads. Assumes nothing.
--- An accepted entry speaks of days and points of the book. Assumes nothing.
+-- What is known of an entry since its call was accepted.
 use Rattle.std.proofs.Common.{◌≡◌, ℕ, ◌+◌, ◌<◌, ◌≤◌, Bool, true, false, cond, not, ◌||◌, ltb, List, [], ◌∷◌, is_some, Some, None, count_by, Option, sym, refl, ap, ◌∙◌, ◌-◌, leb, length, get_or, ℤ, pos, negsuc, subst, inl, inr, arith}
 use Rattle.std.specs.List.{AllByRecursion}
 use Rattle.std.proofs.lemmas.Bool.{true≢false, and_parts, ltb-true, ltb-false, not-false, leb-true}
@@ -22,6 +20,7 @@ use Rattle.rules.specs.ReadingLaws.{LiesInBook, KeepsLimits, EntryLiesInBook}
 use Rattle.rules.proofs.Readings.{kept_among}
 use Rattle.estimators.specs.Limits.{greatest_count}
 
+-- a condition that is not the first to hold does not hold, and the refusal is that of the others
 passed_over : (b : Bool) (n : ℕ) (rest : Option ℕ) → cond b (Some n) rest ≡ None → (b ≡ false) × (rest ≡ None)
 passed_over true n rest e = absurd (true≢false (ap is_some e))
 passed_over false n rest e = (refl, e)
@@ -46,6 +45,7 @@ pub record FitsIn (s : Setting) (h : History) (r : Reading) : Type 0 where
   pub over_firm : replaces_firm_though_soft h r ≡ false
   pub room : count_by (λ old. not (replaces r old)) (held_readings h) + 1 ≤ s.places
 
+-- every accepted reading does
 pub fits : (s : Setting) (h : History) (r : Reading) → IsLawful s (ReadingTaken r ∷ h) → FitsIn s h r
 fits s h r lawful =
     let c = lawful.1.0 in
@@ -78,6 +78,7 @@ of_enrolled test (Some (IntervalEntered day meter energy)) = false
 of_enrolled test (Some (DegreeDaysEntered day count)) = false
 of_enrolled test (Some (ReadingTaken r)) = false
 
+-- whether a call enrols a point again is read off its entry
 enrolled_by_entry : (s : Setting) (h : History) (c : Call)
     → of_enrolled (λ p. is_some (enrolment_of h p)) (entry_of s c) ≡ enrols_again h c
 enrolled_by_entry s h (Enrol point retailer start) = refl
@@ -96,6 +97,8 @@ newly_enrolled s h p e lawful =
     let c = lawful.1.0 in
     let none = accepted s h c lawful.1.1 in
     ap (of_enrolled (λ q. is_some (enrolment_of h q))) (sym lawful.1.2) ∙ enrolled_by_entry s h c ∙ none.1.1.1.1.1.0
+
+-- Held readings lie in the book, and their days have loads.
 
 -- what holds of each reading as it is accepted, and stays, holds of every held one
 pub of_each_held : (s : Setting) (P : History → Reading → Type 0)
@@ -126,10 +129,12 @@ OfReading P (Some (IntervalEntered day meter energy)) = Unit {0}
 OfReading P (Some (DegreeDaysEntered day count)) = Unit {0}
 OfReading P (Some (ReadingTaken r)) = P r
 
+-- an energy within the limit is at most the largest, as a reading has it
 energy_below : (e : ℤ) → is_energy_within_limit e ≡ true → energy_of e ≤ largest_energy
 energy_below (pos e) within = leb-true e largest_energy within
 energy_below (negsuc e) within = omega arith
 
+-- a call that is within its limits and in the book takes a reading that keeps to them
 limited : (s : Setting) (c : Call)
     → is_beyond_limits s c ≡ false → names_day_outside_book s c ≡ false → OfReading (KeepsLimits s) (entry_of s c)
 limited s (Enrol point retailer start) three five = tt
@@ -153,6 +158,7 @@ limited s (AskFigure point date) three five = tt
 limited s (AskDay date) three five = tt
 limited s (AskRetailer retailer date) three five = tt
 
+-- every accepted reading keeps within the limits
 pub reading_limited : (s : Setting) (h : History) (r : Reading) → IsLawful s (ReadingTaken r ∷ h) → KeepsLimits s r
 reading_limited s h r lawful =
     let c = lawful.1.0 in
@@ -164,23 +170,28 @@ mapped_some : {X Y : Type 0} (f : X → Y) (o : Option X) → is_some (option_ma
 mapped_some f None = refl
 mapped_some f (Some x) = refl
 
+-- a day has a load where it has a gate entry
 pub load_by_gate : (s : Setting) (h : History) (d : ℕ) → is_some (load s h d) ≡ is_some (gate_of h d)
 load_by_gate s h d = mapped_some (load_from_gate s h d) (gate_of h d)
 
+-- of two values one is there where the second is
 either_some : {X : Type 0} (a b : Option X) → is_some b ≡ true → is_some (option_or a b) ≡ true
 either_some None b e = e
 either_some (Some x) b e = refl
 
+-- a day that has a load has one after any entry
 pub load_stays : (s : Setting) (e : Entry) (h : History) (d : ℕ)
     → is_some (load s h d) ≡ true → is_some (load s (e ∷ h) d) ≡ true
 load_stays s e h d had =
     load_by_gate s (e ∷ h) d ∙ either_some (gate_in d e) (gate_of h d) (sym (load_by_gate s h d) ∙ had)
 
+-- where a day and all later ones have loads, it has one and so have they
 all_loaded_by : (b : Bool) (d : ℕ) (rest : Option ℕ)
     → is_some (cond b rest (Some d)) ≡ false → (b ≡ true) × (is_some rest ≡ false)
 all_loaded_by true d rest e = (refl, e)
 all_loaded_by false d rest e = absurd (true≢false e)
 
+-- where no day is the first without a load, each has one
 all_loaded : (s : Setting) (h : History) (ds : List ℕ)
     → is_some (first_day_without_load s h ds) ≡ false → AllByRecursion (λ d. is_some (load s h d) ≡ true) ds
 all_loaded s h [] e = tt
@@ -203,6 +214,7 @@ reading_loaded s h r lawful d from before =
     ap (λ x. is_some (load s h x)) (sym day)
     ∙ All-get_or (λ x. is_some (load s h x) ≡ true) (covered_days r) i 0 within (all_loaded s h (covered_days r) eleven)
 
+-- every held reading keeps within the limits, and each day that it covers has a load
 pub held_in_book : (s : Setting) (h : History) → IsLawful s h → (r : Reading) → Holds h r → LiesInBook s h r
 held_in_book s =
     of_each_held s (LiesInBook s)
@@ -215,6 +227,8 @@ held_in_book s =
       days_have_loads = λ d from before. load_stays s (ReadingTaken r) h d (reading_loaded s h r new d from before);
     })
 
+-- Accepted entries speak of the book.
+
 -- a date in the book has its place among the book's days
 pub day_of_date_within : (s : Setting) (date : ℕ) → not (is_in_book s 0 date) ≡ false → day_of_date s date < s.days
 day_of_date_within s date five =
@@ -224,10 +238,12 @@ day_of_date_within s date five =
     let high : day_number_of date < s.first + s.days + 0 = ltb-true _ _ inside.1 in
     omega arith
 
+-- a number from low to high is neither below low nor above high
 between_parts : (low high n : ℕ) → is_between low high n ≡ true → (low ≤ n) × (n ≤ high)
 between_parts low high n inside =
     let parts = and_parts (leb low n) (leb n high) inside in (leb-true low n parts.0, leb-true n high parts.1)
 
+-- the entry of a call within its limits and in the book speaks of the book
 call_in : (s : Setting) (c : Call)
     → is_beyond_limits s c ≡ false → names_day_outside_book s c ≡ false → EntryLiesInBook s (entry_of s c)
 call_in s (Enrol point retailer start) three five =
@@ -245,6 +261,7 @@ call_in s (AskFigure point date) three five = tt
 call_in s (AskDay date) three five = tt
 call_in s (AskRetailer retailer date) three five = tt
 
+-- every accepted entry speaks of the book
 pub entry_in : (s : Setting) (h : History) (e : Entry) → IsLawful s (e ∷ h) → EntryLiesInBook s (Some e)
 entry_in s h e lawful =
     let c = lawful.1.0 in

@@ -1,6 +1,4 @@
--- Why each day balances.
--- Why the retailers' sums leave no figure out and count none twice.
--- What a day shows of a point that no reading covers.
+-- Why each day balances, and what it shows of a point.
 use Rattle.std.proofs.Common.{◌≡◌, ℕ, ◌+◌, ◌-◌, ◌<◌, ◌≤◌, Bool, true, false, ltb, ◌⊎◌, map, length, get_or, is_some, Some, None, sum, Option, unwrap_or, sym, refl, ap, ◌∙◌, subst, inl, inr, ⊎_elim, arith, cond, ◌&&◌, eqb, leb, [], ◌∷◌, not}
 use Rattle.std.specs.List.{range_with_len}
 use Rattle.std.specs.Option.{option_map, option_or}
@@ -166,6 +164,8 @@ supplied_any_estimator s t h p d same = λ i.
         (λ gate. loads.net_load gate.energy_in gate.energy_out (loads.adjusted (interval_total h k) (same i)))
         (gate_of h k)
 
+-- The retailers' sums leave no figure out and count none twice.
+
 -- an enrolment, where there is one, is with a retailer of the area
 abbrev pub with_retailer : Option Enrolment → Bool
 with_retailer None = true
@@ -180,6 +180,7 @@ entry_retailer (Some (IntervalEntered day meter energy)) = true
 entry_retailer (Some (DegreeDaysEntered day count)) = true
 entry_retailer (Some (ReadingTaken r)) = true
 
+-- a call within its limits enrols with a retailer of the area
 within_limits : (s : Setting) (c : Call) → is_beyond_limits s c ≡ false → entry_retailer (entry_of s c) ≡ true
 within_limits s (Enrol point retailer start) e =
     (and_parts (is_between 1 s.points point) (is_between 1 retailers retailer)
@@ -192,6 +193,7 @@ within_limits s (AskFigure point date) e = refl
 within_limits s (AskDay date) e = refl
 within_limits s (AskRetailer retailer date) e = refl
 
+-- of two enrolments, both with a retailer of the area, the one taken is too
 either_retailer : (b : Bool) (e : Enrolment) (o : Option Enrolment)
     → with_retailer (Some e) ≡ true → with_retailer o ≡ true
     → with_retailer (option_or (cond b (Some e) None) o) ≡ true
@@ -235,12 +237,16 @@ retailers_all s h d lawful =
     one_retailer (enrolment_of h p) (figure s h p d) (enrolled_with_retailer s h p lawful)
     (λ none. figure_before s h p d lawful low (ap (λ o. has_begun o d) none))))
 
+-- so they balance with the remainder
 pub retailers_balance : (s : Setting) (h : History) (d n : ℕ)
     → IsLawful s h → load s h d ≡ Some n → retailers_sum s h d + remainder s h d n ≡ n + excess s h d n
 retailers_balance s h d n lawful loaded =
     ap (λ f. f + remainder s h d n) (retailers_all s h d lawful)
     ∙ (balances s h d n loaded).balance
 
+-- A point that no reading covers.
+
+-- where no reading covers, the other value is taken
 nothing_supplied : (f : Reading → ℕ) (o : Option Reading) (x : ℕ)
     → is_some o ≡ false → unwrap_or (option_map f o) x ≡ x
 nothing_supplied f None x none = refl
@@ -254,6 +260,7 @@ figure_generated s h p d one =
     (not-true (is_some (covering_reading h p d))
     (and_parts (is_active h p d) (not (is_some (covering_reading h p d))) one).1)
 
+-- where estimates are not scaled, an estimated point shows its estimate, none counting 0
 pub shows_estimate : (s : Setting) (h : History) (p d : ℕ)
     → 0 < p → p ≤ s.points → is_estimated h p d ≡ true → is_scaled s h d ≡ false
     → figure s h p d ≡ unwrap_or (estimate s h p d) 0
@@ -265,6 +272,7 @@ shows_estimate s h p d low high one kept =
     ∙ get_or-map-range_with_len (λ q. counted_estimate s h q d) 1 s.points (p - 1) p 0 (omega arith) (omega arith)
     ∙ cond-true (is_estimated h p d) (unwrap_or (estimate s h p d) 0) 0 one
 
+-- where they are scaled, it shows its share of what the load leaves
 pub shows_share : (s : Setting) (h : History) (p d : ℕ) → is_estimated h p d ≡ true → is_scaled s h d ≡ true
     → figure s h p d ≡ get_or (shares (unwrap_or (load s h d) 0 - supplied_sum s h d) (estimates s h d)) (p - 1) 0
 shows_share s h p d one scaled =

@@ -1,5 +1,4 @@
 -- What the figures of a day are made of, and that nothing else moves them.
--- The figures depend on the latest entries and on the accepted readings in their order.
 use Rattle.std.proofs.Common.{◌≡◌, ℕ, ◌-◌, ◌<◌, ◌≤◌, Bool, true, false, cond, not, ◌&&◌, map, get_or, is_some, Some, sum, count_by, unwrap_or, refl, ap, ◌∙◌, ⊎_elim, arith, List, [], ◌∷◌, None, Option, sym}
 use Rattle.std.specs.List.{range_with_len}
 use Rattle.std.specs.Option.{option_map, option_or}
@@ -25,23 +24,29 @@ pub record SameParts (s : Setting) (h new : History) (d : ℕ) : Type 0 where
   pub estimate_same : (p : ℕ) → estimate s new p d ≡ estimate s h p d
 
 module _ (s : Setting) (h new : History) (d : ℕ) (same : SameParts s h new d) where
+  -- then what is supplied is the same
   pub supplied_sum_same : supplied_sum s new d ≡ supplied_sum s h d
   supplied_sum_same = λ i. sum (map (λ p. unwrap_or (same.supplied_same p i) 0) (points_of s))
 
+  -- and the estimates
   pub estimates_same : estimates s new d ≡ estimates s h d
   estimates_same = λ i. map (λ p. cond (same.estimated_same p i) (unwrap_or (same.estimate_same p i) 0) 0) (points_of s)
 
+  -- and the generated figures
   pub generated_same : generated_figures s new d ≡ generated_figures s h d
   generated_same = λ i.
       cond (needs_scaling (supplied_sum_same i) (sum (estimates_same i)) (same.loads_same i))
       (shares (unwrap_or (same.loads_same i) 0 - supplied_sum_same i) (estimates_same i)) (estimates_same i)
 
+  -- and each figure
   pub figure_same : (p : ℕ) → figure s new p d ≡ figure s h p d
   figure_same p = λ i. unwrap_or (same.supplied_same p i) (get_or (generated_same i) (p - 1) 0)
 
+  -- and what all figures come to
   pub figures_sum_same : figures_sum s new d ≡ figures_sum s h d
   figures_sum_same = λ i. sum (map (λ p. figure_same p i) (points_of s))
 
+  -- and the missing count
   pub missing_same : missing_count s new d ≡ missing_count s h d
   missing_same = λ i. count_by (λ p. same.estimated_same p i && not (is_some (same.estimate_same p i))) (points_of s)
 
@@ -51,6 +56,7 @@ module _ (s : Setting) (h new : History) (d : ℕ) (same : SameParts s h new d) 
   retailers_same enrolments k = λ i.
       sum (map (λ p. cond (belongs_to (enrolments p i) k) (figure_same p i) 0) (points_of s))
 
+  -- the day stands where the retailers' sums do
   pub same_day : ((k : ℕ) → retailer_sum s new k d ≡ retailer_sum s h k d) → SameDay s h new d
   same_day retailers = record {
     load_stands = same.loads_same;
@@ -63,7 +69,7 @@ module _ (s : Setting) (h new : History) (d : ℕ) (same : SameParts s h new d) 
     retailers_stand = retailers;
   }
 
--- a day whose points have the same retailers is told the same where it is made of the same
+-- a day whose points have the same retailers stands where it is made of the same
 pub same_day_enrolled : (s : Setting) (h new : History) (d : ℕ)
     → ((p : ℕ) → enrolment_of new p ≡ enrolment_of h p) → SameParts s h new d → SameDay s h new d
 same_day_enrolled s h new d enrolments same = same_day s h new d same (retailers_same s h new d same enrolments)
@@ -137,6 +143,8 @@ covered_not_estimated h p d some = ap (λ b. is_active h p d && not b) some ∙ 
     and_false true = refl
     and_false false = refl
 
+-- The latest entries and the accepted readings in their order decide every day.
+
 -- the first of some readings that covers a point's day
 abbrev first_covering : List Reading → ℕ → ℕ → Option Reading
 first_covering [] p d = None
@@ -163,6 +171,7 @@ covering_by_readings h new same p d =
 module _
     (s : Setting) (h new : History) (latest_same : SameLatest h new)
     (covering_same : (p d : ℕ) → covering_reading new p d ≡ covering_reading h p d) where
+  -- histories with the same latest entries and covering readings make each day of the same
   parts_same : (d : ℕ) → SameParts s h new d
   parts_same d = record {
     loads_same = loads d;
@@ -175,5 +184,6 @@ module _
       loads : (k : ℕ) → load s new k ≡ load s h k
       loads k = load_same s h new k (latest_same.gates k) (λ m. latest_same.intervals m k)
 
+  -- so every day stands
   pub same_sheet : SameSheet s h new
   same_sheet d = same_day_enrolled s h new d latest_same.enrolments (parts_same d)

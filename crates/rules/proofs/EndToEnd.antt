@@ -1,4 +1,4 @@
--- Readings that lie end to end, and that they still do after one more. Assumes nothing.
+-- Readings that lie end to end, and that they still do after one more reading or enrolment.
 use Rattle.std.proofs.Common.{◌≡◌, ℕ, ◌<◌, ◌≤◌, Bool, true, false, cond, not, eqb, ◌⊎◌, List, [], ◌∷◌, is_some, Some, None, filter, Option, unwrap_or, sym, refl, ap, ◌∙◌, subst, inl, inr, ⊎_elim, arith}
 use Rattle.std.specs.Option.{option_or}
 use Rattle.std.proofs.ByRecursion.{All-weaker, kept_by_passes}
@@ -28,6 +28,7 @@ pub record IsTiled
   pub shown : (p d : ℕ) (r : Reading) → last p d ≡ Some r → IsOneOf r readings × (covers r p d ≡ true)
   pub held_last : (p d : ℕ) (r : Reading) → IsOneOf r readings → covers r p d ≡ true → last p d ≡ Some r
 
+-- no readings lie end to end, while no point is enrolled
 pub tiled_none : (enrolled : ℕ → Option Enrolment) → ((p : ℕ) → enrolled p ≡ None) → IsTiled enrolled [] (λ p d. None)
 tiled_none enrolled none = record {
   begins = λ r a. absurd a;
@@ -77,21 +78,27 @@ module _
       in
       (starts_before, ends_after)
 
+  -- an old reading stays where the new one does not replace it
   abbrev stays : Reading → Bool
   stays old = not (replaces r old)
 
+  -- the readings after it
   abbrev pub now_held : List Reading
   now_held = r ∷ filter stays readings
 
+  -- the last accepted readings after it
   abbrev pub now_last : ℕ → ℕ → Option Reading
   now_last p d = option_or (cond (covers r p d) (Some r) None) (last p d)
 
+  -- a reading that it does not replace is kept
   keep : (o : Reading) → IsOneOf o readings → replaces r o ≡ false → IsOneOf o now_held
   keep o a e = inr (among_kept o stays readings a (not_from_false (replaces r o) e))
 
+  -- a kept reading was there, and it does not replace it
   kept : (o : Reading) → IsOneOf o (filter stays readings) → IsOneOf o readings × (replaces r o ≡ false)
   kept o a = let back = kept_among o stays readings a in (back.0, not-true (replaces r o) back.1)
 
+  -- its point has begun at its start
   new_begins : has_begun (enrolled r.point) r.start ≡ true
   new_begins =
       ⊎_elim (λ start. starts_begun (enrolled r.point) r.start r.start start (omega arith))
@@ -101,14 +108,17 @@ module _
       begun_later (enrolled r.point) other.start r.start here (omega (arith, t.forward other end.1, end.3)))
       start_mark
 
+  -- so have the points of all readings at theirs
   now_begins : (o : Reading) → IsOneOf o now_held → has_begun (enrolled o.point) o.start ≡ true
   now_begins o (inl same) = rw same at new_begins
   now_begins o (inr later) = t.begins o (kept o later).0
 
+  -- every reading ends after its start
   now_forward : (o : Reading) → IsOneOf o now_held → o.start < o.end
   now_forward o (inl same) = rw same at ahead
   now_forward o (inr later) = t.forward o (kept o later).0
 
+  -- its start is a mark after it too
   new_from_mark : AtMark enrolled now_held r.point r.start
   new_from_mark =
       ⊎_elim (λ start. inl start)
@@ -141,10 +151,12 @@ module _
       (cases_Bool (replaces r other)))
       (t.from_mark o a)
 
+  -- every reading starts at a mark
   now_from_mark : (o : Reading) → IsOneOf o now_held → AtMark enrolled now_held o.point o.start
   now_from_mark o (inl same) = subst (λ x. AtMark enrolled now_held x.point x.start) same new_from_mark
   now_from_mark o (inr later) = let was = kept o later in kept_from_mark o was.0 was.1
 
+  -- no two share a day
   now_apart : AreApart now_held
   now_apart = (
     All-weaker (λ o. stays o ≡ true) (λ o. replaces r o ≡ false) (λ o e. not-true (replaces r o) e)
@@ -181,6 +193,7 @@ module _
   was_reached p d m b (inr (o, inr later, at_point, at_end)) h bare =
       t.reaches p d m b (inr (o, (kept o later).0, at_point, at_end)) h
 
+  -- each day from the start day up to a mark is covered
   now_reaches : (p d m : ℕ)
       → has_begun (enrolled p) d ≡ true → AtMark enrolled now_held p m → d < m
       → (o : Reading) × IsOneOf o now_held × (covers o p d ≡ true)
@@ -189,6 +202,7 @@ module _
       (λ bare. let was = was_reached p d m b mark h bare in (was.0, uncovered_kept p d bare was.0 was.1 was.2, was.2))
       (cases_Bool (covers r p d))
 
+  -- the last accepted reading of a day is there and covers it
   shown_by : (p d : ℕ) (o : Reading) (b : Bool)
       → covers r p d ≡ b → option_or (cond b (Some r) None) (last p d) ≡ Some o
       → IsOneOf o now_held × (covers o p d ≡ true)
@@ -197,6 +211,7 @@ module _
       (inl same, ap (λ x. covers x p d) (sym same) ∙ c)
   shown_by p d o false c e = let was = t.shown p d o e in (uncovered_kept p d c o was.0 was.1, was.1)
 
+  -- a reading that covers a day is the last accepted one on it
   last_by : (p d : ℕ) (o : Reading) (b : Bool)
       → covers r p d ≡ b → IsOneOf o now_held → covers o p d ≡ true
       → option_or (cond b (Some r) None) (last p d) ≡ Some o
@@ -205,6 +220,7 @@ module _
   last_by p d o false c (inl same) oc = absurd (both_ways (covers r p d) c (ap (λ x. covers x p d) same ∙ oc))
   last_by p d o false c (inr later) oc = t.held_last p d o (kept o later).0 oc
 
+  -- the readings after it lie end to end
   pub tiled_more : IsTiled enrolled now_held now_last
   tiled_more = record {
     begins = now_begins;
@@ -221,26 +237,32 @@ module _
     {enrolled : ℕ → Option Enrolment} {readings : List Reading} {last : ℕ → ℕ → Option Reading}
     (t : IsTiled enrolled readings last)
     (point : ℕ) (e : Enrolment) (new : is_some (enrolled point) ≡ false) where
+  -- the enrolments after it
   abbrev pub now_enrolled : ℕ → Option Enrolment
   now_enrolled p = option_or (cond (eqb point p) (Some e) None) (enrolled p)
 
+  -- a point that was enrolled has the same enrolment, whichever point it is
   same_by : (p : ℕ) (b : Bool)
       → eqb point p ≡ b → is_some (enrolled p) ≡ true → enrolled p ≡ option_or (cond b (Some e) None) (enrolled p)
   same_by p true here some =
       absurd (both_ways (is_some (enrolled point)) new (ap (λ q. is_some (enrolled q)) (eqb-true point p here) ∙ some))
   same_by p false here some = refl
 
+  -- a point that was enrolled has the same enrolment
   same_enrolled : (p : ℕ) → is_some (enrolled p) ≡ true → enrolled p ≡ now_enrolled p
   same_enrolled p some = same_by p (eqb point p) refl some
 
+  -- a point that had begun has
   begun_now : (p d : ℕ) → has_begun (enrolled p) d ≡ true → has_begun (now_enrolled p) d ≡ true
   begun_now p d b = ap (λ o. has_begun o d) (sym (same_enrolled p (begun_enrolled (enrolled p) d b))) ∙ b
 
+  -- a mark is one still
   mark_now : (p m : ℕ) → AtMark enrolled readings p m → AtMark now_enrolled readings p m
   mark_now p m (inl start) =
       inl (ap (λ o. starts_on o m) (sym (same_enrolled p (starts_enrolled (enrolled p) m start))) ∙ start)
   mark_now p m (inr end) = inr end
 
+  -- each day from the start day up to a mark is covered
   reaches_now : (p d m : ℕ)
       → has_begun (now_enrolled p) d ≡ true → AtMark now_enrolled readings p m → d < m
       → (r : Reading) × IsOneOf r readings × (covers r p d ≡ true)
@@ -251,6 +273,7 @@ module _
       let same = same_enrolled p (begun_enrolled (enrolled p) end.0.start begins) in
       t.reaches p d m (ap (λ o. has_begun o d) same ∙ b) (inr end) h
 
+  -- the readings lie end to end after it
   pub tiled_enrolled : IsTiled now_enrolled readings last
   tiled_enrolled = record {
     begins = λ r a. begun_now r.point r.start (t.begins r a);

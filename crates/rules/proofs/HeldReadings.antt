@@ -1,7 +1,4 @@
--- The readings of every history lie end to end. Assumes nothing.
--- The readings that a point holds lie end to end. Assumes nothing.
--- The last accepted reading that covers a day is the one held reading that does. Assumes nothing.
--- What a newly accepted reading replaces, and the places that it leaves. Assumes nothing.
+-- The held readings of every history that a book can have.
 use Rattle.std.proofs.Common.{◌≡◌, ℕ, ◌<◌, ◌≤◌, Bool, true, not, ◌&&◌, eqb, leb, ◌⊎◌, [], ◌∷◌, None, refl, inl, inr, ⊎_elim, is_some, Some, count_by, sym, ap, ◌∙◌, arith, Option, length}
 use Rattle.std.proofs.lemmas.Bool.{and_parts, and_from, both_ways, cases_lt, eqb-true, eq-eqb, le-leb, not-true, or_cases, or_left, or_right, false≢true, and_cases, not-false}
 use Rattle.rules.specs.Calls.{IsLawful, is_after_all_marks, has_begun_before}
@@ -29,6 +26,7 @@ at_mark h p m e =
     inr (found.0, found.1, eqb-true found.0.point p parts.0, eqb-true found.0.end m parts.1))
     (or_cases (starts_on (enrolment_of h p) m) (list_any ends (held_readings h)) e)
 
+-- and what it follows from
 pub mark_from : (h : History) (p m : ℕ) → AtMark (enrolment_of h) (held_readings h) p m → is_mark h p m ≡ true
 mark_from h p m (inl start) =
     or_left (starts_on (enrolment_of h p) m) (list_any (λ r. eqb r.point p && eqb r.end m) (held_readings h)) start
@@ -80,6 +78,7 @@ replaced_whole s h r old lawful a e =
     whole (tiled s h lawful.0) r (at_mark h r.point r.start f.start_mark) f.ahead (end_allowed s h r f) old a e
 
 module _ (s : Setting) (h : History) (lawful : IsLawful s h) where
+  -- the end of a held reading is a mark
   pub held_ends_at_mark : (r : Reading) → Holds h r → is_mark h r.point r.end ≡ true
   held_ends_at_mark r a = mark_from h r.point r.end (inr (r, a, refl, refl))
 
@@ -88,12 +87,14 @@ module _ (s : Setting) (h : History) (lawful : IsLawful s h) where
       → is_active h p d ≡ true → is_mark h p m ≡ true → d < m → (r : Reading) × Holds h r × (covers r p d ≡ true)
   reached p d m b e before = (tiled s h lawful).reaches p d m b (at_mark h p m e) before
 
+  -- so each such day is covered
   pub covered_to_mark : (p d m : ℕ)
       → is_active h p d ≡ true → is_mark h p m ≡ true → d < m → is_some (covering_reading h p d) ≡ true
   covered_to_mark p d m b e before =
       let found = reached p d m b e before in
       ap is_some ((tiled s h lawful).held_last p d found.0 found.1 found.2)
 
+  -- by one reading
   pub one_covers : (p d m : ℕ)
       → is_active h p d ≡ true → is_mark h p m ≡ true → d < m → count_by (λ r. covers r p d) (held_readings h) ≡ 1
   one_covers p d m b e before =
@@ -115,6 +116,7 @@ module _ (s : Setting) (h : History) (lawful : IsLawful s h) where
       let ends : is_mark h p r.end ≡ true = ap (λ q. is_mark h q r.end) (sym facts.0) ∙ held_ends_at_mark r was.0 in
       (begun_later (enrolment_of h p) r.start d begins facts.1, ends, facts.2)
 
+  -- the held readings of a point lie end to end
   pub end_to_end : HoldsEndToEnd h
   end_to_end = record {
     ahead = (tiled s h lawful).forward;
@@ -130,12 +132,15 @@ module _ (s : Setting) (h : History) (lawful : IsLawful s h) where
   }
 
 module _ (s : Setting) (h : History) (lawful : IsLawful s h) where
+  -- the last accepted reading of a day is held and covers it
   pub covering_held : (p d : ℕ) (r : Reading) → covering_reading h p d ≡ Some r → Holds h r × (covers r p d ≡ true)
   covering_held = (tiled s h lawful).shown
 
+  -- a held reading that covers a day is the last accepted one on it
   pub held_covering : (p d : ℕ) (r : Reading) → Holds h r → covers r p d ≡ true → covering_reading h p d ≡ Some r
   held_covering = (tiled s h lawful).held_last
 
+  -- where no held reading covers a day, none is the last accepted
   none_covering : (p d : ℕ) (o : Option Reading)
       → covering_reading h p d ≡ o → find (λ r. covers r p d) (held_readings h) ≡ None
       → covering_reading h p d ≡ None
@@ -144,6 +149,7 @@ module _ (s : Setting) (h : History) (lawful : IsLawful s h) where
       let held = covering_held p d r e in
       absurd (first_none (λ x. covers x p d) (held_readings h) r none held.0 held.1)
 
+  -- the last accepted reading is the first held one that covers the day, where there is one
   first_covering : (p d : ℕ) (o : Option Reading)
       → find (λ r. covers r p d) (held_readings h) ≡ o → covering_reading h p d ≡ o
   first_covering p d None e = none_covering p d (covering_reading h p d) refl e
@@ -151,9 +157,11 @@ module _ (s : Setting) (h : History) (lawful : IsLawful s h) where
       let first = first_among (λ x. covers x p d) (held_readings h) r e in
       held_covering p d r first.0 first.1
 
+  -- the last accepted reading is the first held one that covers the day
   pub covering_first : (p d : ℕ) → covering_reading h p d ≡ find (λ r. covers r p d) (held_readings h)
   covering_first p d = first_covering p d (find (λ r. covers r p d) (held_readings h)) refl
 
+  -- there is one where some held reading covers the day
   pub covering_some : (p d : ℕ) → is_some (covering_reading h p d) ≡ list_any (λ r. covers r p d) (held_readings h)
   covering_some p d = ap is_some (covering_first p d) ∙ first_is_some (λ r. covers r p d) (held_readings h)
 
@@ -162,6 +170,7 @@ module _ (s : Setting) (h : History) (lawful : IsLawful s h) where
       → covering_reading h p d ≡ Some r → covers r p e ≡ true → covering_reading h p e ≡ Some r
   covering_spans p d e r last c = held_covering p e r (covering_held p d r last).0 c
 
+  -- the last accepted reading that covers a day is the one held reading that does
   pub last_covering : IsCoveredByHeld h
   last_covering = record {
     is_held = covering_held;
@@ -170,6 +179,8 @@ module _ (s : Setting) (h : History) (lawful : IsLawful s h) where
     some_held = covering_some;
     on_all_its_days = covering_spans;
   }
+
+-- What a newly accepted reading replaces, and the places that it leaves.
 
 -- a reading that replaces a firm one is firm
 pub firm_replaced : (s : Setting) (h : History) (r old : Reading)
@@ -182,6 +193,7 @@ firm_replaced s h r old lawful a e f =
     (among_some over (held_readings h) old a (and_from (replaces r old) (firm old.reading_type) e f))))
     (and_cases (not (firm r.reading_type)) (list_any over (held_readings h)) (fits s h r lawful).over_firm)
 
+-- a newly accepted reading replaces whole readings, and firm ones only where it is firm itself
 pub replacing : (s : Setting) (h : History) (r : Reading) → IsLawful s (ReadingTaken r ∷ h) → ReplacesWholes h r
 replacing s h r lawful = record {
   wholly = λ old a e. replaced_whole s h r old lawful a e;

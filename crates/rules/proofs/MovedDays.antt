@@ -1,6 +1,4 @@
--- What an entry can move.
--- What entries can move in the histories of a book.
--- Gate days and interval energies move the load of their day alone. Assumes nothing.
+-- Which days an entry can move.
 use Rattle.std.proofs.Common.{◌≡◌, ℕ, ◌<◌, ◌≤◌, Bool, true, false, cond, not, ◌&&◌, eqb, ltb, leb, ◌∷◌, is_some, Some, None, Option, unwrap_or, sym, refl, ap, ◌∙◌, ⊎_elim, arith, sum}
 use Rattle.std.specs.Option.{option_map, option_or}
 use Rattle.std.proofs.lemmas.Bool.{and_cases, and_from, and_left, and_right, cases_eq, cond-false, eq-eqb, false≢true, le-leb, lt-leb, lt-ltb, ne_eqb, cases_Bool, both_ways, true≢false}
@@ -68,6 +66,7 @@ loads_move s h new g d elsewhere covering_same enrolment_same count_same other a
   estimate_same = λ p i. estimate_under s (count_same i) p d;
 }
 
+-- a gate entry leaves days that share no supplying reading with its day
 pub gate_moves : (s : Setting) (h : History) (g d : ℕ) (energies : GateDay)
     → (d ≡ g → ⊥) → SharesNoReading h d g → SameDay s h (GateEntered g energies ∷ h) d
 gate_moves s h g d energies other apart =
@@ -75,6 +74,7 @@ gate_moves s h g d energies other apart =
     (loads_move s h (GateEntered g energies ∷ h) g d (λ k. gate_elsewhere s h g k energies) (λ p. refl)
     (λ p. refl) refl other apart)
 
+-- and so does an interval energy
 pub interval_moves : (s : Setting) (h : History) (g d meter energy : ℕ)
     → (d ≡ g → ⊥) → SharesNoReading h d g → SameDay s h (IntervalEntered g meter energy ∷ h) d
 interval_moves s h g d meter energy other apart =
@@ -84,6 +84,7 @@ interval_moves s h g d meter energy other apart =
 
 -- Degree-day counts.
 
+-- a degree-day count leaves all other days
 pub count_elsewhere : (s : Setting) (h : History) (g d count : ℕ)
     → (d ≡ g → ⊥) → SameDay s h (DegreeDaysEntered g count ∷ h) d
 count_elsewhere s h g d count other =
@@ -119,6 +120,7 @@ covers_none r p d none =
     (λ l. and_right (eqb r.point p) (leb r.start d && ltb d r.end) l)
     (and_cases (eqb r.point r.point) (leb r.start d && ltb d r.end) none)
 
+-- a reading leaves the days that it does not cover
 pub reading_elsewhere : (s : Setting) (h : History) (r : Reading) (d : ℕ)
     → covers r r.point d ≡ false → SameDay s h (ReadingTaken r ∷ h) d
 reading_elsewhere s h r d none =
@@ -175,6 +177,8 @@ parts_before s h p d e none before = record {
   estimate_same = λ q. refl;
 }
 
+-- In the histories of a book.
+
 -- a reading that covers a point's day covers that day of its own point
 own_point : (r : Reading) (p d : ℕ) → covers r p d ≡ true → covers r r.point d ≡ true
 own_point r p d c =
@@ -194,11 +198,13 @@ apart_unless_joined s h d g lawful none p r cover =
     (and_from (covers r r.point d) (covers r r.point g) (own_point r p d held.1) too))))
     (λ (not_too : covers r r.point g ≡ false). not_too) (cases_Bool (covers r r.point g))
 
+-- so a gate entry leaves days that are not joined to its day
 pub gate_moves_joined : (s : Setting) (h : History) (g d : ℕ) (energies : GateDay)
     → IsLawful s h → (d ≡ g → ⊥) → are_joined h d g ≡ false → SameDay s h (GateEntered g energies ∷ h) d
 gate_moves_joined s h g d energies lawful other none =
     gate_moves s h g d energies other (apart_unless_joined s h d g lawful none)
 
+-- and so does an interval energy
 pub interval_moves_joined : (s : Setting) (h : History) (g d meter energy : ℕ)
     → IsLawful s h → (d ≡ g → ⊥) → are_joined h d g ≡ false → SameDay s h (IntervalEntered g meter energy ∷ h) d
 interval_moves_joined s h g d meter energy lawful other none =
@@ -231,6 +237,7 @@ not_before s h p e lawful = go (enrolment_of h p) (newly_enrolled s h p e lawful
     go None e = refl
     go (Some x) e = absurd (true≢false e)
 
+-- a figure of 0 counts 0 with any retailer
 zero_either : (b : Bool) (f : ℕ) → f ≡ 0 → cond b f 0 ≡ 0
 zero_either true f e = e
 zero_either false f e = refl
@@ -271,12 +278,16 @@ retailers_before s h p d e lawful before k =
         (stands q ∙ nothing q low same)
         ∙ sym (zero_either (belongs_to (enrolment_of h q) k) (figure s h q d) (nothing q low same))
 
+-- an enrolment leaves the days before its start
 pub enrolment_moves : (s : Setting) (h : History) (p d : ℕ) (e : Enrolment)
     → IsLawful s (Enrolled p e ∷ h) → d < e.start → SameDay s h (Enrolled p e ∷ h) d
 enrolment_moves s h p d e lawful before =
     same_day s h (Enrolled p e ∷ h) d (parts_before s h p d e (not_before s h p e lawful) before)
     (retailers_before s h p d e lawful before)
 
+-- The load of one day.
+
+-- a gate entry moves the load of its day alone
 pub gate_moved : (s : Setting) (h : History) (g : ℕ) (energies : GateDay)
     → IsLawful s (GateEntered g energies ∷ h) → DiffersInLoad s h (GateEntered g energies ∷ h) g
 gate_moved s h g energies lawful = record {
@@ -289,6 +300,7 @@ gate_moved s h g energies lawful = record {
   apart = λ d other none. gate_moves_joined s h g d energies lawful.0 other none;
 }
 
+-- and so does an interval energy
 pub interval_moved : (s : Setting) (h : History) (g meter energy : ℕ)
     → IsLawful s (IntervalEntered g meter energy ∷ h) → DiffersInLoad s h (IntervalEntered g meter energy ∷ h) g
 interval_moved s h g meter energy lawful = record {

@@ -1,4 +1,4 @@
--- What an entry leaves of readings and marks. Assumes nothing.
+-- What an entry leaves of readings and marks.
 use Rattle.std.proofs.Common.{◌≡◌, ℕ, Bool, true, false, cond, not, ◌&&◌, ◌||◌, eqb, leb, List, [], ◌∷◌, Some, None, filter, sym, refl, ap, ◌∙◌}
 use Rattle.std.specs.Option.{option_or}
 use Rattle.std.proofs.lemmas.Bool.{and_left, cond-false, not-false, true≢false}
@@ -12,6 +12,7 @@ use Rattle.rules.specs.declared.entry.Reading.{Reading}
 use Rattle.rules.specs.ReadingLaws.{LeavesOthers}
 use Rattle.rules.proofs.Readings.{replaces_facts}
 
+-- an entry that is no reading leaves the held readings
 pub held_stays : (e : Entry) (h : History) → is_reading e ≡ false → held_readings (e ∷ h) ≡ held_readings h
 held_stays (Enrolled point enrolment) h no_reading = refl
 held_stays (GateEntered day gate) h no_reading = refl
@@ -28,6 +29,7 @@ others_by p false o ks os gone same =
     same
     ∙ sym (cond-false (eqb o.point p) (o ∷ filter (λ x. eqb x.point p) os) (filter (λ x. eqb x.point p) os) (gone refl))
 
+-- so those of another point are kept
 others_kept : (r : Reading) (p : ℕ)
     → eqb r.point p ≡ false → (rs : List Reading)
     → filter (λ x. eqb x.point p) (filter (λ old. not (replaces r old)) rs) ≡ filter (λ x. eqb x.point p) rs
@@ -37,6 +39,7 @@ others_kept r p other (o ∷ os) =
     ap (λ q. eqb q p) (sym (replaces_facts r o (not-false (replaces r o) gone)).0) ∙ other)
     (others_kept r p other os)
 
+-- an entry that is no reading of a point leaves the point's held readings
 pub held_by_stays : (e : Entry) (h : History) (p : ℕ)
     → is_reading_of p e ≡ false → held_readings_of (e ∷ h) p ≡ held_readings_of h p
 held_by_stays (Enrolled point enrolment) h p other = refl
@@ -48,6 +51,7 @@ held_by_stays (ReadingTaken r) h p other =
     cond-false (eqb r.point p) (r ∷ filter (λ x. eqb x.point p) rest) (filter (λ x. eqb x.point p) rest) other
     ∙ others_kept r p other (held_readings h)
 
+-- and the readings that cover its days
 pub covering_stays : (e : Entry) (h : History) (p d : ℕ)
     → is_reading_of p e ≡ false → covering_reading (e ∷ h) p d ≡ covering_reading h p d
 covering_stays (Enrolled point enrolment) h p d other = refl
@@ -58,6 +62,7 @@ covering_stays (ReadingTaken r) h p d other =
     ap (λ o. option_or o (covering_reading h p d))
     (cond-false (covers r p d) (Some r) None (and_left (eqb r.point p) _ other))
 
+-- an entry that is no enrolment of a point leaves its enrolment
 pub enrolment_stays : (e : Entry) (h : History) (p : ℕ)
     → is_enrolment_of p e ≡ false → enrolment_of (e ∷ h) p ≡ enrolment_of h p
 enrolment_stays (Enrolled point enrolment) h p other =
@@ -73,6 +78,7 @@ by_point : (b : Bool) (test : Reading → Bool) (o : Reading) (rest : Bool) (ks 
 by_point true test o rest ks same = ap (λ x. test o || x) same
 by_point false test o rest ks same = same
 
+-- so it is for all readings of a list
 pub some_by_point : (p : ℕ) (test : Reading → Bool) (rs : List Reading)
     → list_any (λ r. eqb r.point p && test r) rs ≡ list_any test (filter (λ r. eqb r.point p) rs)
 some_by_point p test [] = refl
@@ -80,6 +86,7 @@ some_by_point p test (o ∷ os) =
     by_point (eqb o.point p) test o (list_any (λ r. eqb r.point p && test r) os) (filter (λ r. eqb r.point p) os)
     (some_by_point p test os)
 
+-- an entry that is no reading of a point leaves every test on its held readings
 pub test_stays : (e : Entry) (h : History) (p : ℕ) (test : Reading → Bool)
     → is_reading_of p e ≡ false
     → list_any (λ r. eqb r.point p && test r) (held_readings (e ∷ h))
@@ -89,6 +96,7 @@ test_stays e h p test other =
     ∙ ap (list_any test) (held_by_stays e h p other)
     ∙ sym (some_by_point p test (held_readings h))
 
+-- an entry that neither enrols nor reads a point leaves its marks
 pub marks_stay : (e : Entry) (h : History) (p m : ℕ)
     → is_enrolment_of p e ≡ false → is_reading_of p e ≡ false → is_mark (e ∷ h) p m ≡ is_mark h p m
 marks_stay e h p m not_enrols not_reads =
@@ -96,6 +104,7 @@ marks_stay e h p m not_enrols not_reads =
     (enrolment_stays e h p not_enrols)
     ∙ ap (λ b. starts_on (enrolment_of h p) m || b) (test_stays e h p (λ r. eqb r.end m) not_reads)
 
+-- and which days are later than all of them
 pub last_mark_stays : (e : Entry) (h : History) (p m : ℕ)
     → is_enrolment_of p e ≡ false → is_reading_of p e ≡ false
     → is_after_all_marks (e ∷ h) p m ≡ is_after_all_marks h p m
@@ -104,6 +113,7 @@ last_mark_stays e h p m not_enrols not_reads =
     (enrolment_stays e h p not_enrols)
     ∙ ap (λ b. has_begun_before (enrolment_of h p) m && not b) (test_stays e h p (λ r. leb m r.end) not_reads)
 
+-- what an entry leaves as it was
 pub leaves : (e : Entry) (h : History) → LeavesOthers e h
 leaves e h = record {
   held_stays = held_stays e h;

@@ -1,5 +1,4 @@
--- What the tests on spans tell, and what they are told from. Assumes nothing.
--- Readings among others: tests, filters, and readings that lie apart. Assumes nothing.
+-- What the tests on readings tell, and readings among others.
 use Rattle.std.proofs.Common.{◌≡◌, ℕ, ◌<◌, ◌≤◌, Bool, true, false, ◌&&◌, eqb, ltb, leb, ◌⊎◌, is_some, Some, None, Option, sym, refl, ◌∙◌, inl, inr, arith, zero, suc, ◌+◌, cond, not, ◌||◌, List, [], ◌∷◌, length, get_or, count_by, filter, unwrap_or, ap, ⊎_elim, le_of_suc-le-suc, not-suc-le-zero}
 use Rattle.std.proofs.lemmas.Bool.{and_parts, and_from, eqb-true, leb-true, ltb-true, eq-eqb, le-leb, lt-ltb, cases_lt, both_ways, false≢true, cases_Bool, cond-false, cond-true, not-true, or_cases, or_left, or_right}
 use Rattle.rules.specs.Figures.{has_begun}
@@ -11,17 +10,20 @@ use Rattle.std.specs.List.{AllByRecursion, list_any, find}
 use Rattle.std.proofs.ByRecursion.{all_kept_by, All-weaker, kept_by_passes}
 use Rattle.std.proofs.lemmas.List.Sums.{sum_by-cons}
 
+-- what a covered day tells
 pub covers_facts : (r : Reading) (p d : ℕ) → covers r p d ≡ true → (r.point ≡ p) × (r.start ≤ d) × (d < r.end)
 covers_facts r p d e =
     let parts = and_parts (eqb r.point p) (leb r.start d && ltb d r.end) e in
     let span = and_parts (leb r.start d) (ltb d r.end) parts.1 in
     (eqb-true r.point p parts.0, leb-true r.start d span.0, ltb-true d r.end span.1)
 
+-- and what it follows from
 pub covers_from : (r : Reading) (p d : ℕ) → r.point ≡ p → r.start ≤ d → d < r.end → covers r p d ≡ true
 covers_from r p d same from before =
     and_from (eqb r.point p) (leb r.start d && ltb d r.end) (eq-eqb r.point p same)
     (and_from (leb r.start d) (ltb d r.end) (le-leb r.start d from) (lt-ltb d r.end before))
 
+-- what a replaced reading tells
 pub replaces_facts : (new old : Reading)
     → replaces new old ≡ true → (new.point ≡ old.point) × (new.start < old.end) × (old.start < new.end)
 replaces_facts new old e =
@@ -29,6 +31,7 @@ replaces_facts new old e =
     let span = and_parts (ltb new.start old.end) (ltb old.start new.end) parts.1 in
     (eqb-true new.point old.point parts.0, ltb-true new.start old.end span.0, ltb-true old.start new.end span.1)
 
+-- and what it follows from
 pub replaces_from : (new old : Reading)
     → new.point ≡ old.point → new.start < old.end → old.start < new.end → replaces new old ≡ true
 replaces_from new old same a b =
@@ -72,21 +75,27 @@ pub starts_begun : (o : Option Enrolment) (m d : ℕ) → starts_on o m ≡ true
 starts_begun None m d e h = absurd (false≢true e)
 starts_begun (Some x) m d e h = le-leb x.start d (omega (arith, eqb-true x.start m e))
 
+-- no day before the start day is one of figures
 pub starts_first : (o : Option Enrolment) (m d : ℕ) → starts_on o m ≡ true → has_begun o d ≡ true → m ≤ d
 starts_first None m d e b = absurd (false≢true e)
 starts_first (Some x) m d e b = omega (arith, eqb-true x.start m e, leb-true x.start d b)
 
+-- a point that has begun has begun on every later day
 pub begun_later : (o : Option Enrolment) (d later : ℕ) → has_begun o d ≡ true → d ≤ later → has_begun o later ≡ true
 begun_later None d later b h = absurd (false≢true b)
 begun_later (Some x) d later b h = le-leb x.start later (omega (arith, leb-true x.start d b))
 
+-- a point that has begun is enrolled
 pub begun_enrolled : (o : Option Enrolment) (d : ℕ) → has_begun o d ≡ true → is_some o ≡ true
 begun_enrolled None d b = b
 begun_enrolled (Some x) d b = refl
 
+-- a point that has a start day is enrolled
 pub starts_enrolled : (o : Option Enrolment) (m : ℕ) → starts_on o m ≡ true → is_some o ≡ true
 starts_enrolled None m e = e
 starts_enrolled (Some x) m e = refl
+
+-- Readings among others.
 
 -- where some reading passes a test, one among them does
 pub some_among : (test : Reading → Bool) (rs : List Reading)
@@ -111,10 +120,12 @@ all_among P (o ∷ os) r all (inl same) = rw same at all.0
 all_among P (o ∷ os) r all (inr later) = all_among P os r all.1 later
 
 module _ (r : Reading) where
+  -- one of a list is one of it with another in front, taken or not
   kept_later : (b : Bool) (o : Reading) (ks : List Reading) → IsOneOf r ks → IsOneOf r (cond b (o ∷ ks) ks)
   kept_later true o ks a = inr a
   kept_later false o ks a = a
 
+  -- the first of a list is one of it where it is taken
   kept_here : (b : Bool) (o : Reading) (ks : List Reading) → b ≡ true → o ≡ r → IsOneOf r (cond b (o ∷ ks) ks)
   kept_here true o ks e same = inl same
   kept_here false o ks e same = absurd (false≢true e)
@@ -126,6 +137,7 @@ module _ (r : Reading) where
   among_kept test (o ∷ os) (inl same) t = kept_here (test o) o (filter test os) (ap test same ∙ t) same
   among_kept test (o ∷ os) (inr later) t = kept_later (test o) o (filter test os) (among_kept test os later t)
 
+  -- one of a list with another in front, taken or not, was there and passes the test
   kept_back : (test : Reading → Bool) (b : Bool) (o : Reading) (os ks : List Reading)
       → test o ≡ b → (IsOneOf r ks → IsOneOf r os × (test r ≡ true)) → IsOneOf r (cond b (o ∷ ks) ks)
       → IsOneOf r (o ∷ os) × (test r ≡ true)
@@ -140,11 +152,13 @@ module _ (r : Reading) where
   kept_among test (o ∷ os) a =
       kept_back test (test o) o os (filter test os) refl (λ later. kept_among test os later) a
 
+-- readings that lie apart do so with another in front, taken or not
 apart_cond : (b : Bool) (r : Reading) (ks : List Reading)
     → AllByRecursion (λ o. replaces r o ≡ false) ks → AreApart ks → AreApart (cond b (r ∷ ks) ks)
 apart_cond true r ks all apart = (all, apart)
 apart_cond false r ks all apart = apart
 
+-- readings that lie apart do so after a filter
 pub apart_kept : (test : Reading → Bool) (rs : List Reading) → AreApart rs → AreApart (filter test rs)
 apart_kept test [] a = tt
 apart_kept test (r ∷ rs) a =
@@ -173,6 +187,7 @@ apart_two a b (o ∷ os) apart (inr later) (inl here) =
     (ap (λ r. replaces r a) (sym here) ∙ all_among (λ r. replaces o r ≡ false) os a apart.0 later))
 apart_two a b (o ∷ os) apart (inr x) (inr y) = apart_two a b os apart.1 x y
 
+-- the first of a list is there and passes the test, whether its head does or not
 first_by : (test : Reading → Bool) (b : Bool) (o : Reading) (os : List Reading) (first : Option Reading)
     → test o ≡ b → ((r : Reading) → first ≡ Some r → IsOneOf r os × (test r ≡ true)) → (r : Reading)
     → cond b (Some o) first ≡ Some r → IsOneOf r (o ∷ os) × (test r ≡ true)
@@ -186,6 +201,7 @@ pub first_among : (test : Reading → Bool) (rs : List Reading) (r : Reading)
 first_among test [] r e = absurd (false≢true (ap is_some e))
 first_among test (o ∷ os) r e = first_by test (test o) o os (find test os) refl (first_among test os) r e
 
+-- there is a first one that passes where one of the list does
 first_some : (test : Reading → Bool) (rs : List Reading) (r : Reading)
     → IsOneOf r rs → test r ≡ true → is_some (find test rs) ≡ true
 first_some test [] r a t = absurd a
@@ -202,6 +218,7 @@ pub first_none : (test : Reading → Bool) (rs : List Reading) (r : Reading)
     → find test rs ≡ None → IsOneOf r rs → test r ≡ true → ⊥
 first_none test rs r e a t = false≢true (ap is_some (sym e) ∙ first_some test rs r a t)
 
+-- there is a first one where the head or some later one passes
 some_is : (b : Bool) (o : Reading) (first : Option Reading) (rest : Bool)
     → is_some first ≡ rest → is_some (cond b (Some o) first) ≡ (b || rest)
 some_is true o first rest e = refl
@@ -219,6 +236,7 @@ counted test o os t =
     sum_by-cons (λ r. cond (test r) 1 0) o os
     ∙ ap (λ n. n + count_by test os) (cond-true (test o) 1 0 t)
 
+-- and does not where it fails
 not_counted : (test : Reading → Bool) (o : Reading) (os : List Reading)
     → test o ≡ false → count_by test (o ∷ os) ≡ count_by test os
 not_counted test o os t =
@@ -232,6 +250,7 @@ pub count_none : (test : Reading → Bool) (rs : List Reading)
 count_none test [] none = refl
 count_none test (o ∷ os) none = not_counted test o os (none o (inl refl)) ∙ count_none test os (λ r a. none r (inr a))
 
+-- one or more pass where one does
 pub count_some : (test : Reading → Bool) (rs : List Reading) (r : Reading)
     → IsOneOf r rs → test r ≡ true → 1 ≤ count_by test rs
 count_some test [] r a t = absurd a
@@ -259,6 +278,7 @@ get_or_among [] i d h = absurd (not-suc-le-zero h)
 get_or_among (r ∷ rs) zero d h = inl refl
 get_or_among (r ∷ rs) (suc i) d h = inr (get_or_among rs i d (le_of_suc-le-suc h))
 
+-- one of a list stands at a place of it
 pub among_get_or : (r : Reading) (rs : List Reading)
     → IsOneOf r rs → (i : ℕ) × (i < length rs) × ((d : Reading) → get_or rs i d ≡ r)
 among_get_or r [] a = absurd a

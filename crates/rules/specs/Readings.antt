@@ -4,7 +4,7 @@ use Rattle.std.specs.List.{AllByRecursion, list_any}
 use Rattle.rules.specs.History.{History, covers, enrolment_of}
 use Rattle.rules.specs.declared.entry.Enrolment.{Enrolment}
 use Rattle.rules.specs.declared.entry.Entry.{Entry}
-use Rattle.rules.specs.declared.entry.Entry.TheVariants.{Enrolled, GateEntered, IntervalEntered, DegreeDaysEntered, ReadingTaken}
+use Rattle.rules.specs.declared.entry.Entry.TheVariants.{Enrolled, ReadingTaken}
 use Rattle.rules.specs.declared.entry.Reading.{Reading}
 
 -- the accepted readings, the newest first
