@@ -36,8 +36,8 @@ pub accepted : (s : Setting) (h : History) (c : Call)
     → refusal s h c ≡ None → AllByRecursion (λ x. x.holds ≡ false) (conditions s h c)
 accepted s h c e = none_holds (conditions s h c) e
 
--- what an accepted reading keeps to: it starts at a mark, ends after its start, at a mark or later than all, replaces no
--- firm readings if it is soft, and has a place
+-- what an accepted reading keeps to: it starts at a mark, ends after its start, at a mark or later than all marks,
+-- replaces no firm readings if it is soft, and has a place
 pub record FitsIn (s : Setting) (h : History) (r : Reading) : Type 0 where
   pub start_mark : is_mark h r.point r.start ≡ true
   pub ahead : r.start < r.end

@@ -57,8 +57,8 @@ figure_parts s h p d above = go (covering_reading h p d) refl
   where
     go : (o : Option Reading)
         → covering_reading h p d ≡ o
-        → unwrap_or (option_map (share_on s h d) (covering_reading h p d)) (get_or (generated_figures s h d) (p - 1) 0)
-        ≡ unwrap_or (option_map (share_on s h d) (covering_reading h p d)) 0 + get_or (generated_figures s h d) (p - 1) 0
+        → unwrap_or (supplied_figure s h p d) (get_or (generated_figures s h d) (p - 1) 0)
+        ≡ unwrap_or (supplied_figure s h p d) 0 + get_or (generated_figures s h d) (p - 1) 0
     go None e =
         rw e (omega arith)
     go (Some r) e =
@@ -154,8 +154,7 @@ pub supplied_any_estimator : (s t : Setting) (h : History) (p d : ℕ)
 supplied_any_estimator s t h p d same = λ i.
     option_map
     (λ r.
-    get_or (shares r.energy (map (λ k. loads.weight (unwrap_or (loaded i k) 0)) (range_with_len r.start (r.end - r.start))))
-    (d - r.start) 0)
+    get_or (shares r.energy (map (weighed i) (range_with_len r.start (r.end - r.start)))) (d - r.start) 0)
     (covering_reading h p d)
   where
     loaded : (i : 𝕀) → ℕ → Option ℕ
@@ -163,6 +162,9 @@ supplied_any_estimator s t h p d same = λ i.
         option_map
         (λ gate. loads.net_load gate.energy_in gate.energy_out (loads.adjusted (interval_total h k) (same i)))
         (gate_of h k)
+
+    weighed : (i : 𝕀) → ℕ → ℕ
+    weighed i k = loads.weight (unwrap_or (loaded i k) 0)
 
 -- The retailers' sums leave no figure out and count none twice.
 

@@ -89,7 +89,8 @@ pub supplied_bounded : (s : Setting) (h : History)
     → IsLawful s h → (p d : ℕ) → unwrap_or (supplied_figure s h p d) 0 ≤ largest_energy
 supplied_bounded s h lawful p d = go (covering_reading h p d) refl
   where
-    go : (o : Option Reading) → covering_reading h p d ≡ o → unwrap_or (option_map (share_on s h d) o) 0 ≤ largest_energy
+    go : (o : Option Reading)
+        → covering_reading h p d ≡ o → unwrap_or (option_map (share_on s h d) o) 0 ≤ largest_energy
     go None e = omega arith
     go (Some r) e = share_bounded s h lawful p d r e
 
@@ -114,7 +115,8 @@ counted_bounded false o most = omega arith
 
 -- the estimates that count keep within the largest
 pub estimates_bounded : (s : Setting) (h : History) (d : ℕ)
-    → ((p x : ℕ) → estimate s h p d ≡ Some x → x ≤ greatest_figure) → (k : ℕ) → get_or (estimates s h d) k 0 ≤ greatest_figure
+    → ((p x : ℕ) → estimate s h p d ≡ Some x → x ≤ greatest_figure)
+    → (k : ℕ) → get_or (estimates s h d) k 0 ≤ greatest_figure
 estimates_bounded s h d most k =
     ⊎_elim
     (λ low.
@@ -205,7 +207,8 @@ load_bounded s h lawful d n loaded = go (gate_of h d) (gates_within s h d lawful
 
 -- a held reading can be shared over its days
 pub reading_shareable : (s : Setting) (h : History)
-    → IsLawful s h → s.days ≤ last_day → (r : Reading) → Holds h r → can_share largest_gate r.energy (weights s h r) ≡ true
+    → IsLawful s h → s.days ≤ last_day → (r : Reading)
+    → Holds h r → can_share largest_gate r.energy (weights s h r) ≡ true
 reading_shareable s h lawful few r a =
     let limits = held_within s h lawful r a in
     let rows : length (weights s h r) ≤ last_day = omega (arith, length_weights s h r, limits.3) in

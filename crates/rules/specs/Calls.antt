@@ -16,6 +16,7 @@ use Rattle.rules.specs.declared.entry.Entry.{Entry}
 use Rattle.rules.specs.declared.entry.Entry.TheVariants.{Enrolled, GateEntered, IntervalEntered, DegreeDaysEntered, ReadingTaken}
 use Rattle.rules.specs.declared.entry.Reading.{Reading}
 
+-- how many retailers and interval meters there are, and the most that a meter burns on a day and that a reading has
 abbrev pub retailers : ℕ
 retailers = 16
 

@@ -34,7 +34,8 @@ three_loaded =
 
 -- and an actual reading of 1 and 2 July is taken
 abbrev pub one_metered : History
-one_metered = ReadingTaken (record { point = 1; start = 0; end = 2; energy = 200; reading_type = Actual }) ∷ three_loaded
+one_metered =
+    ReadingTaken (record { point = 1; start = 0; end = 2; energy = 200; reading_type = Actual }) ∷ three_loaded
 
 -- a reading of a point, from a date to before another, is delivered
 abbrev pub delivery : (point start end : ℕ) → (energy : ℤ) → ReadingType → Call

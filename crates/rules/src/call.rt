@@ -20,7 +20,6 @@ pub struct Delivery {
 /// Points, retailers and interval meters are numbered from 1. Dates are their eight digits, such as 20240701;
 /// energies are in megajoules, and degree-day counts in hundredths of a degree day. `specs/Calls` says by which number
 /// a call is refused, from 3 to 14.
-// Only a delivery has a struct of its own: the two or three numbers of another call have their names in it.
 #[derive(Clone, Copy, Debug, PartialEq, Eq)]
 pub enum Call {
     /// A point is enrolled with a retailer, and has figures from its start date on.

@@ -11,7 +11,10 @@ unfolding is_date day_number_of leap month_lengths month_length exists days_befo
 returns c = record {
   lawful = (
     (
-      (((tt, (Enrol 1 1 20240701, refl, refl)), (EnterGate 20240701 100 0, refl, refl)), (EnterGate 20240702 300 0, refl, refl)),
+      (
+        ((tt, (Enrol 1 1 20240701, refl, refl)), (EnterGate 20240701 100 0, refl, refl)),
+        (EnterGate 20240702 300 0, refl, refl),
+      ),
       (EnterGate 20240703 50 0, refl, refl),
     ),
     (delivery 1 20240701 20240703 (pos 200) Actual, refl, refl),
