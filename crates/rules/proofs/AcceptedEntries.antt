@@ -6,10 +6,10 @@ use Rattle.rules.specs.Calls.{Condition, IsLawful, is_after_all_marks, condition
 use Rattle.rules.specs.History.{History, Setting, enrolment_of, gate_in, gate_of}
 use Rattle.rules.specs.Readings.{held_readings, is_mark, replaces, Holds}
 use Rattle.rules.specs.declared.call.Call.{Call}
-use Rattle.rules.specs.declared.call.Call.TheVariants.{Enrol, EnterGate, EnterInterval, EnterDegreeDays, EnterReading, AskFigure, AskDay, AskRetailer}
+use Rattle.rules.specs.declared.call.Call.TheVariants.{Enrol, EnterGate, EnterInterval, EnterDegreeDays, EnterReading}
 use Rattle.rules.specs.declared.entry.Enrolment.{Enrolment}
 use Rattle.rules.specs.declared.entry.Entry.{Entry}
-use Rattle.rules.specs.declared.entry.Entry.TheVariants.{Enrolled, GateEntered, IntervalEntered, DegreeDaysEntered, ReadingTaken}
+use Rattle.rules.specs.declared.entry.Entry.TheVariants.{Enrolled, ReadingTaken}
 use Rattle.rules.specs.declared.entry.Reading.{Reading}
 use Rattle.std.specs.Option.{option_map, option_or}
 use Rattle.std.proofs.lemmas.List.FromFn.{get_or-range_with_len, length-range_with_len}
@@ -71,24 +71,14 @@ fits s h r lawful =
 
 -- a condition on the point that an entry enrols
 abbrev of_enrolled : (ℕ → Bool) → Option Entry → Bool
-of_enrolled test None = false
 of_enrolled test (Some (Enrolled point enrolment)) = test point
-of_enrolled test (Some (GateEntered day gate)) = false
-of_enrolled test (Some (IntervalEntered day meter energy)) = false
-of_enrolled test (Some (DegreeDaysEntered day count)) = false
-of_enrolled test (Some (ReadingTaken r)) = false
+of_enrolled test o = false
 
 -- whether a call enrols a point again is read off its entry
 enrolled_by_entry : (s : Setting) (h : History) (c : Call)
     → of_enrolled (λ p. is_some (enrolment_of h p)) (entry_of s c) ≡ enrols_again h c
 enrolled_by_entry s h (Enrol point retailer start) = refl
-enrolled_by_entry s h (EnterGate date energy_in energy_out) = refl
-enrolled_by_entry s h (EnterInterval date meter energy) = refl
-enrolled_by_entry s h (EnterDegreeDays date count) = refl
-enrolled_by_entry s h (EnterReading delivery) = refl
-enrolled_by_entry s h (AskFigure point date) = refl
-enrolled_by_entry s h (AskDay date) = refl
-enrolled_by_entry s h (AskRetailer retailer date) = refl
+enrolled_by_entry s h c = refl
 
 -- a point that was enrolled had not been before
 pub newly_enrolled : (s : Setting) (h : History) (p : ℕ) (e : Enrolment)
@@ -106,28 +96,17 @@ pub of_each_held : (s : Setting) (P : History → Reading → Type 0)
     → ((h : History) (r : Reading) → IsLawful s (ReadingTaken r ∷ h) → P (ReadingTaken r ∷ h) r) → (h : History)
     → IsLawful s h → (r : Reading) → Holds h r → P h r
 of_each_held s P stays new [] lawful r a = absurd a
-of_each_held s P stays new (Enrolled p e ∷ h) lawful r a =
-    stays (Enrolled p e) h r (of_each_held s P stays new h lawful.0 r a)
-of_each_held s P stays new (GateEntered day gate ∷ h) lawful r a =
-    stays (GateEntered day gate) h r (of_each_held s P stays new h lawful.0 r a)
-of_each_held s P stays new (IntervalEntered day meter energy ∷ h) lawful r a =
-    stays (IntervalEntered day meter energy) h r (of_each_held s P stays new h lawful.0 r a)
-of_each_held s P stays new (DegreeDaysEntered day count ∷ h) lawful r a =
-    stays (DegreeDaysEntered day count) h r (of_each_held s P stays new h lawful.0 r a)
 of_each_held s P stays new (ReadingTaken o ∷ h) lawful r (inl same) =
     subst (P (ReadingTaken o ∷ h)) same (new h o lawful)
 of_each_held s P stays new (ReadingTaken o ∷ h) lawful r (inr later) =
     stays (ReadingTaken o) h r
     (of_each_held s P stays new h lawful.0 r (kept_among r (λ old. not (replaces o old)) _ later).0)
+of_each_held s P stays new (e ∷ h) lawful r a = stays e h r (of_each_held s P stays new h lawful.0 r a)
 
 -- what holds of the reading that a call would take
 abbrev OfReading : (Reading → Type 0) → Option Entry → Type 0
-OfReading P None = Unit {0}
-OfReading P (Some (Enrolled point enrolment)) = Unit {0}
-OfReading P (Some (GateEntered day gate)) = Unit {0}
-OfReading P (Some (IntervalEntered day meter energy)) = Unit {0}
-OfReading P (Some (DegreeDaysEntered day count)) = Unit {0}
 OfReading P (Some (ReadingTaken r)) = P r
+OfReading P o = Unit {0}
 
 -- an energy within the limit is at most the largest, as a reading has it
 energy_below : (e : ℤ) → is_energy_within_limit e ≡ true → energy_of e ≤ largest_energy
@@ -137,10 +116,6 @@ energy_below (negsuc e) within = omega arith
 -- a call that is within its limits and in the book takes a reading that keeps to them
 limited : (s : Setting) (c : Call)
     → is_beyond_limits s c ≡ false → names_day_outside_book s c ≡ false → OfReading (KeepsLimits s) (entry_of s c)
-limited s (Enrol point retailer start) three five = tt
-limited s (EnterGate date energy_in energy_out) three five = tt
-limited s (EnterInterval date meter energy) three five = tt
-limited s (EnterDegreeDays date count) three five = tt
 limited s (EnterReading delivery) three five =
     let numbers = and_parts (is_between 1 s.points delivery.point) (is_energy_within_limit delivery.energy)
     (not-false _ three) in
@@ -154,9 +129,7 @@ limited s (EnterReading delivery) three five =
       point_high = leb-true delivery.point s.points point_within.1;
       energy_limited = energy_below delivery.energy numbers.1;
     }
-limited s (AskFigure point date) three five = tt
-limited s (AskDay date) three five = tt
-limited s (AskRetailer retailer date) three five = tt
+limited s c three five = tt
 
 -- every accepted reading keeps within the limits
 pub reading_limited : (s : Setting) (h : History) (r : Reading) → IsLawful s (ReadingTaken r ∷ h) → KeepsLimits s r
@@ -257,9 +230,7 @@ call_in s (EnterDegreeDays date count) three five =
 call_in s (EnterReading delivery) three five =
     between_parts 1 s.points delivery.point
     (and_parts (is_between 1 s.points delivery.point) (is_energy_within_limit delivery.energy) (not-false _ three)).0
-call_in s (AskFigure point date) three five = tt
-call_in s (AskDay date) three five = tt
-call_in s (AskRetailer retailer date) three five = tt
+call_in s c three five = tt
 
 -- every accepted entry speaks of the book
 pub entry_in : (s : Setting) (h : History) (e : Entry) → IsLawful s (e ∷ h) → EntryLiesInBook s (Some e)

@@ -14,10 +14,10 @@ use Rattle.rules.proofs.Days.{covered_not_estimated, generated_none}
 use Rattle.rules.proofs.SumsAndRows.{map_over, row_from_one, sum_added, sum_once, sum_swap, sum_zeros}
 use Rattle.rules.specs.Calls.{IsLawful, is_between, is_beyond_limits, entry_of, retailers}
 use Rattle.rules.specs.declared.call.Call.{Call}
-use Rattle.rules.specs.declared.call.Call.TheVariants.{Enrol, EnterGate, EnterInterval, EnterDegreeDays, EnterReading, AskFigure, AskDay, AskRetailer}
+use Rattle.rules.specs.declared.call.Call.TheVariants.{Enrol}
 use Rattle.rules.specs.declared.entry.Enrolment.{Enrolment}
 use Rattle.rules.specs.declared.entry.Entry.{Entry}
-use Rattle.rules.specs.declared.entry.Entry.TheVariants.{Enrolled, GateEntered, IntervalEntered, DegreeDaysEntered, ReadingTaken}
+use Rattle.rules.specs.declared.entry.Entry.TheVariants.{Enrolled}
 use Rattle.rules.proofs.AcceptedEntries.{accepted}
 use Rattle.rules.proofs.MovedDays.{figure_before}
 use Rattle.allocation.specs.Loads as loads
@@ -175,25 +175,15 @@ with_retailer (Some e) = is_between 1 retailers e.retailer
 
 -- the same of what an entry enrols
 abbrev entry_retailer : Option Entry → Bool
-entry_retailer None = true
 entry_retailer (Some (Enrolled point enrolment)) = with_retailer (Some enrolment)
-entry_retailer (Some (GateEntered day gate)) = true
-entry_retailer (Some (IntervalEntered day meter energy)) = true
-entry_retailer (Some (DegreeDaysEntered day count)) = true
-entry_retailer (Some (ReadingTaken r)) = true
+entry_retailer o = true
 
 -- a call within its limits enrols with a retailer of the area
 within_limits : (s : Setting) (c : Call) → is_beyond_limits s c ≡ false → entry_retailer (entry_of s c) ≡ true
 within_limits s (Enrol point retailer start) e =
     (and_parts (is_between 1 s.points point) (is_between 1 retailers retailer)
     (not-false (is_between 1 s.points point && is_between 1 retailers retailer) e)).1
-within_limits s (EnterGate date energy_in energy_out) e = refl
-within_limits s (EnterInterval date meter energy) e = refl
-within_limits s (EnterDegreeDays date count) e = refl
-within_limits s (EnterReading delivery) e = refl
-within_limits s (AskFigure point date) e = refl
-within_limits s (AskDay date) e = refl
-within_limits s (AskRetailer retailer date) e = refl
+within_limits s c e = refl
 
 -- of two enrolments, both with a retailer of the area, the one taken is too
 either_retailer : (b : Bool) (e : Enrolment) (o : Option Enrolment)
@@ -211,10 +201,7 @@ enrolled_with_retailer s (Enrolled q e ∷ h) p lawful =
     let limits : with_retailer (Some e) ≡ true =
     ap entry_retailer (sym lawful.1.2) ∙ within_limits s c (accepted s h c lawful.1.1).0 in
     either_retailer (eqb q p) e (enrolment_of h p) limits (enrolled_with_retailer s h p lawful.0)
-enrolled_with_retailer s (GateEntered day gate ∷ h) p lawful = enrolled_with_retailer s h p lawful.0
-enrolled_with_retailer s (IntervalEntered day meter energy ∷ h) p lawful = enrolled_with_retailer s h p lawful.0
-enrolled_with_retailer s (DegreeDaysEntered day count ∷ h) p lawful = enrolled_with_retailer s h p lawful.0
-enrolled_with_retailer s (ReadingTaken r ∷ h) p lawful = enrolled_with_retailer s h p lawful.0
+enrolled_with_retailer s (e ∷ h) p lawful = enrolled_with_retailer s h p lawful.0
 
 -- a figure is counted with one retailer, or is 0
 one_retailer : (o : Option Enrolment) (f : ℕ)

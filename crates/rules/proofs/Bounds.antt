@@ -17,9 +17,9 @@ use Rattle.rules.specs.Calls.{IsLawful, entry_of, is_beyond_limits, largest_ener
 use Rattle.rules.specs.Figures.{estimate, counted_estimate, is_estimated, estimates, figure, generated_figures, load, load_from_gate, share_on, supplied_figure, supplied_sum, weight, weights}
 use Rattle.rules.specs.History.{History, Setting, covering_reading, gate_of}
 use Rattle.rules.specs.declared.call.Call.{Call}
-use Rattle.rules.specs.declared.call.Call.TheVariants.{Enrol, EnterGate, EnterInterval, EnterDegreeDays, EnterReading, AskFigure, AskDay, AskRetailer}
+use Rattle.rules.specs.declared.call.Call.TheVariants.{EnterGate}
 use Rattle.rules.specs.declared.entry.Entry.{Entry}
-use Rattle.rules.specs.declared.entry.Entry.TheVariants.{Enrolled, GateEntered, IntervalEntered, DegreeDaysEntered, ReadingTaken}
+use Rattle.rules.specs.declared.entry.Entry.TheVariants.{GateEntered}
 use Rattle.rules.specs.declared.entry.GateDay.{GateDay}
 use Rattle.rules.specs.declared.entry.Reading.{Reading}
 use Rattle.rules.specs.Readings.{Holds}
@@ -153,25 +153,15 @@ gate_within (Some gate) = leb gate.energy_in largest_gate
 
 -- the same of what an entry says
 abbrev entry_within : Option Entry → Bool
-entry_within None = true
-entry_within (Some (Enrolled point enrolment)) = true
 entry_within (Some (GateEntered day gate)) = gate_within (Some gate)
-entry_within (Some (IntervalEntered day meter energy)) = true
-entry_within (Some (DegreeDaysEntered day count)) = true
-entry_within (Some (ReadingTaken r)) = true
+entry_within o = true
 
 -- a call within its limits enters gate energies within theirs
 within_limits : (s : Setting) (c : Call) → is_beyond_limits s c ≡ false → entry_within (entry_of s c) ≡ true
-within_limits s (Enrol point retailer start) e = refl
 within_limits s (EnterGate date energy_in energy_out) e =
     (and_parts (leb energy_in largest_gate) (leb energy_out largest_gate)
     (not-false (leb energy_in largest_gate && leb energy_out largest_gate) e)).0
-within_limits s (EnterInterval date meter energy) e = refl
-within_limits s (EnterDegreeDays date count) e = refl
-within_limits s (EnterReading delivery) e = refl
-within_limits s (AskFigure point date) e = refl
-within_limits s (AskDay date) e = refl
-within_limits s (AskRetailer retailer date) e = refl
+within_limits s c e = refl
 
 -- of two gate entries within the limit, the one taken is too
 either_within : (b : Bool) (gate : GateDay) (o : Option GateDay)
@@ -183,15 +173,12 @@ either_within false gate o here later = later
 -- every gate entry of a book keeps within the limit
 gates_within : (s : Setting) (h : History) (d : ℕ) → IsLawful s h → gate_within (gate_of h d) ≡ true
 gates_within s [] d lawful = refl
-gates_within s (Enrolled q e ∷ h) d lawful = gates_within s h d lawful.0
 gates_within s (GateEntered day gate ∷ h) d lawful =
     let c = lawful.1.0 in
     let limits : gate_within (Some gate) ≡ true =
     ap entry_within (sym lawful.1.2) ∙ within_limits s c (accepted s h c lawful.1.1).0 in
     either_within (eqb day d) gate (gate_of h d) limits (gates_within s h d lawful.0)
-gates_within s (IntervalEntered day meter energy ∷ h) d lawful = gates_within s h d lawful.0
-gates_within s (DegreeDaysEntered day count ∷ h) d lawful = gates_within s h d lawful.0
-gates_within s (ReadingTaken r ∷ h) d lawful = gates_within s h d lawful.0
+gates_within s (e ∷ h) d lawful = gates_within s h d lawful.0
 
 -- a load is at most what came in through the gate
 pub load_bounded : (s : Setting) (h : History) → IsLawful s h → (d n : ℕ) → load s h d ≡ Some n → n ≤ largest_gate

@@ -13,7 +13,7 @@ use Rattle.rules.specs.declared.entry.Reading.{Reading}
 use Rattle.rules.specs.FigureLaws.{SameDay, SameLatest, SameSheet}
 use Rattle.rules.proofs.SumsAndRows.{map_over, mapped_over}
 use Rattle.rules.specs.Readings.{accepted_readings}
-use Rattle.rules.specs.declared.entry.Entry.TheVariants.{Enrolled, GateEntered, IntervalEntered, DegreeDaysEntered, ReadingTaken}
+use Rattle.rules.specs.declared.entry.Entry.TheVariants.{ReadingTaken}
 use Rattle.allocation.specs.Loads as loads
 
 -- what a day's figures are made of is the same under either history
@@ -153,12 +153,9 @@ first_covering (r ∷ rs) p d = option_or (cond (covers r p d) (Some r) None) (f
 -- the covering reading is the first accepted one, the newest first
 covering_is_first : (h : History) (p d : ℕ) → covering_reading h p d ≡ first_covering (accepted_readings h) p d
 covering_is_first [] p d = refl
-covering_is_first (Enrolled point enrolment ∷ h) p d = covering_is_first h p d
-covering_is_first (GateEntered day gate ∷ h) p d = covering_is_first h p d
-covering_is_first (IntervalEntered day meter energy ∷ h) p d = covering_is_first h p d
-covering_is_first (DegreeDaysEntered day count ∷ h) p d = covering_is_first h p d
 covering_is_first (ReadingTaken r ∷ h) p d =
     ap (option_or (cond (covers r p d) (Some r) None)) (covering_is_first h p d)
+covering_is_first (e ∷ h) p d = covering_is_first h p d
 
 -- histories that accepted the same readings in the same order have the same covering readings
 pub covering_by_readings : (h new : History)

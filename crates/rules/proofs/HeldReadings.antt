@@ -5,7 +5,7 @@ use Rattle.rules.specs.Calls.{IsLawful, is_after_all_marks, has_begun_before}
 use Rattle.rules.specs.History.{History, Setting, covering_reading, enrolment_of, covers}
 use Rattle.rules.specs.Readings.{held_readings, is_mark, replaces, starts_on, Holds}
 use Rattle.std.specs.List.{list_any, find}
-use Rattle.rules.specs.declared.entry.Entry.TheVariants.{Enrolled, GateEntered, IntervalEntered, DegreeDaysEntered, ReadingTaken}
+use Rattle.rules.specs.declared.entry.Entry.TheVariants.{Enrolled, ReadingTaken}
 use Rattle.rules.specs.declared.entry.Reading.{Reading}
 use Rattle.rules.proofs.AcceptedEntries.{FitsIn, fits, newly_enrolled}
 use Rattle.rules.proofs.Readings.{among_some, some_among, count_apart, count_some, begun_later, covers_facts, first_among, first_is_some, first_none}
@@ -62,12 +62,10 @@ pub tiled : (s : Setting) (h : History)
     → IsLawful s h → IsTiled (λ p. enrolment_of h p) (held_readings h) (λ p d. covering_reading h p d)
 tiled s [] lawful = tiled_none (λ p. None) (λ p. refl)
 tiled s (Enrolled p e ∷ h) lawful = tiled_enrolled (tiled s h lawful.0) p e (newly_enrolled s h p e lawful)
-tiled s (GateEntered day gate ∷ h) lawful = tiled s h lawful.0
-tiled s (IntervalEntered day meter energy ∷ h) lawful = tiled s h lawful.0
-tiled s (DegreeDaysEntered day count ∷ h) lawful = tiled s h lawful.0
 tiled s (ReadingTaken r ∷ h) lawful =
     let f = fits s h r lawful in
     tiled_more (tiled s h lawful.0) r (at_mark h r.point r.start f.start_mark) f.ahead (end_allowed s h r f)
+tiled s (e ∷ h) lawful = tiled s h lawful.0
 
 -- a held reading that a newly accepted one replaces lies inside it
 pub replaced_whole : (s : Setting) (h : History) (r old : Reading)
@@ -203,9 +201,6 @@ replacing s h r lawful = record {
 -- no more readings are held than there are places
 pub within_places : (s : Setting) (h : History) → IsLawful s h → length (held_readings h) ≤ s.places
 within_places s [] lawful = omega arith
-within_places s (Enrolled p e ∷ h) lawful = within_places s h lawful.0
-within_places s (GateEntered day gate ∷ h) lawful = within_places s h lawful.0
-within_places s (IntervalEntered day meter energy ∷ h) lawful = within_places s h lawful.0
-within_places s (DegreeDaysEntered day count ∷ h) lawful = within_places s h lawful.0
 within_places s (ReadingTaken r ∷ h) lawful =
     omega (arith, (fits s h r lawful).room, length-filter (λ old. not (replaces r old)) (held_readings h))
+within_places s (e ∷ h) lawful = within_places s h lawful.0

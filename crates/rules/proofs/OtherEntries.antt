@@ -7,18 +7,15 @@ use Rattle.rules.specs.History.{History, covering_reading, covers, enrolment_of}
 use Rattle.rules.specs.Readings.{held_readings, is_mark, replaces, starts_on, is_enrolment_of, held_readings_of, is_reading, is_reading_of}
 use Rattle.std.specs.List.{list_any}
 use Rattle.rules.specs.declared.entry.Entry.{Entry}
-use Rattle.rules.specs.declared.entry.Entry.TheVariants.{Enrolled, GateEntered, IntervalEntered, DegreeDaysEntered, ReadingTaken}
+use Rattle.rules.specs.declared.entry.Entry.TheVariants.{Enrolled, ReadingTaken}
 use Rattle.rules.specs.declared.entry.Reading.{Reading}
 use Rattle.rules.specs.ReadingLaws.{LeavesOthers}
 use Rattle.rules.proofs.Readings.{replaces_facts}
 
 -- an entry that is no reading leaves the held readings
 pub held_stays : (e : Entry) (h : History) → is_reading e ≡ false → held_readings (e ∷ h) ≡ held_readings h
-held_stays (Enrolled point enrolment) h no_reading = refl
-held_stays (GateEntered day gate) h no_reading = refl
-held_stays (IntervalEntered day meter energy) h no_reading = refl
-held_stays (DegreeDaysEntered day count) h no_reading = refl
 held_stays (ReadingTaken r) h no_reading = absurd (true≢false no_reading)
+held_stays e h no_reading = refl
 
 -- a reading replaces none of another point
 others_by : (p : ℕ) (b : Bool) (o : Reading) (ks os : List Reading)
@@ -42,35 +39,26 @@ others_kept r p other (o ∷ os) =
 -- an entry that is no reading of a point leaves the point's held readings
 pub held_by_stays : (e : Entry) (h : History) (p : ℕ)
     → is_reading_of p e ≡ false → held_readings_of (e ∷ h) p ≡ held_readings_of h p
-held_by_stays (Enrolled point enrolment) h p other = refl
-held_by_stays (GateEntered day gate) h p other = refl
-held_by_stays (IntervalEntered day meter energy) h p other = refl
-held_by_stays (DegreeDaysEntered day count) h p other = refl
 held_by_stays (ReadingTaken r) h p other =
     let rest = filter (λ old. not (replaces r old)) (held_readings h) in
     cond-false (eqb r.point p) (r ∷ filter (λ x. eqb x.point p) rest) (filter (λ x. eqb x.point p) rest) other
     ∙ others_kept r p other (held_readings h)
+held_by_stays e h p other = refl
 
 -- and the readings that cover its days
 pub covering_stays : (e : Entry) (h : History) (p d : ℕ)
     → is_reading_of p e ≡ false → covering_reading (e ∷ h) p d ≡ covering_reading h p d
-covering_stays (Enrolled point enrolment) h p d other = refl
-covering_stays (GateEntered day gate) h p d other = refl
-covering_stays (IntervalEntered day meter energy) h p d other = refl
-covering_stays (DegreeDaysEntered day count) h p d other = refl
 covering_stays (ReadingTaken r) h p d other =
     ap (λ o. option_or o (covering_reading h p d))
     (cond-false (covers r p d) (Some r) None (and_left (eqb r.point p) _ other))
+covering_stays e h p d other = refl
 
 -- an entry that is no enrolment of a point leaves its enrolment
 pub enrolment_stays : (e : Entry) (h : History) (p : ℕ)
     → is_enrolment_of p e ≡ false → enrolment_of (e ∷ h) p ≡ enrolment_of h p
 enrolment_stays (Enrolled point enrolment) h p other =
     ap (λ o. option_or o (enrolment_of h p)) (cond-false (eqb point p) (Some enrolment) None other)
-enrolment_stays (GateEntered day gate) h p other = refl
-enrolment_stays (IntervalEntered day meter energy) h p other = refl
-enrolment_stays (DegreeDaysEntered day count) h p other = refl
-enrolment_stays (ReadingTaken r) h p other = refl
+enrolment_stays e h p other = refl
 
 -- a test on the readings of a point is one on those that it holds
 by_point : (b : Bool) (test : Reading → Bool) (o : Reading) (rest : Bool) (ks : List Reading)
