@@ -1,12 +1,12 @@
 -- When a call is refused, by which number, and the entry that it makes when it is not.
 use Rattle.std.specs.Prelude.{◌≡◌, ℕ, ◌+◌, ◌-◌, Bool, true, false, if◌then◌else◌, not, ◌&&◌, ◌||◌, List, [], ◌∷◌, ℤ, pos, negsuc, is_some, Some, None, count_by, Option, ◌==◌, nat_le, nat_lt}
-use Rattle.std.specs.List.{list_any, range_with_len}
+use Rattle.std.specs.List.{list_any}
 use Rattle.calendar.specs.Digits.{date_numbered, day_number_of, is_date}
 use Rattle.estimators.specs.Limits.{greatest_count}
 use Rattle.allocation.specs.Loads.{largest_gate}
 use Rattle.terms.specs.Types.{firm}
 use Rattle.rules.specs.Figures.{load}
-use Rattle.rules.specs.History.{History, Setting, enrolment_of}
+use Rattle.rules.specs.History.{History, Setting, covered_days, enrolment_of}
 use Rattle.rules.specs.Readings.{held_readings, is_mark, replaces}
 use Rattle.rules.specs.declared.call.Call.{Call}
 use Rattle.rules.specs.declared.call.Call.TheVariants.{Enrol, EnterGate, EnterInterval, EnterDegreeDays, EnterReading, AskFigure, AskDay, AskRetailer}
@@ -166,10 +166,6 @@ ends_where_not_allowed h r =
 abbrev pub first_day_without_load : Setting → History → (days : List ℕ) → Option ℕ
 first_day_without_load s h [] = None
 first_day_without_load s h (d ∷ ds) = if is_some (load s h d) then first_day_without_load s h ds else Some d
-
--- the days that a reading covers
-abbrev pub covered_days : Reading → List ℕ
-covered_days r = range_with_len r.start (r.end - r.start)
 
 -- 11: the reading covers a day that has no load
 abbrev pub covers_day_without_load : Setting → History → Reading → Bool

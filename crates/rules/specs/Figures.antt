@@ -4,7 +4,7 @@ use Rattle.std.specs.List.{range_with_len}
 use Rattle.std.specs.Option.{option_map, unwrap_or}
 use Rattle.allocation.specs.Loads as loads
 use Rattle.allocation.specs.Sharing.{shares}
-use Rattle.rules.specs.History.{History, Setting, covering_reading, degree_day_count, enrolment_of, gate_of, interval_energy}
+use Rattle.rules.specs.History.{History, Setting, covered_days, covering_reading, degree_day_count, enrolment_of, gate_of, interval_energy}
 use Rattle.rules.specs.declared.entry.Enrolment.{Enrolment}
 use Rattle.rules.specs.declared.entry.GateDay.{GateDay}
 use Rattle.rules.specs.declared.entry.Reading.{Reading}
@@ -32,7 +32,7 @@ weight s h d = loads.weight (unwrap_or (load s h d) 0)
 
 -- the weights of the days that a reading covers, in their order
 abbrev pub weights : Setting → History → Reading → List ℕ
-weights s h r = map (weight s h) (range_with_len r.start (r.end - r.start))
+weights s h r = map (weight s h) (covered_days r)
 
 -- a reading's share of a day that it covers
 abbrev pub share_on : Setting → History → (day : ℕ) → Reading → ℕ

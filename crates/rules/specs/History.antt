@@ -1,6 +1,7 @@
 -- What a book was opened with, and what it has accepted since.
 -- Days are days of the book, from 0; a point is p and a day d.
-use Rattle.std.specs.Prelude.{ℕ, Bool, if◌then◌else◌, ◌&&◌, List, [], ◌∷◌, Some, None, Option, ◌==◌, nat_le, nat_lt}
+use Rattle.std.specs.Prelude.{ℕ, ◌-◌, Bool, if◌then◌else◌, ◌&&◌, List, [], ◌∷◌, Some, None, Option, ◌==◌, nat_le, nat_lt}
+use Rattle.std.specs.List.{range_with_len}
 use Rattle.std.specs.Option.{option_or, unwrap_or}
 use Rattle.estimators.specs.Meaning.{Meaning}
 use Rattle.rules.specs.declared.entry.Enrolment.{Enrolment}
@@ -57,6 +58,10 @@ enrolment_in p e = None
 -- a reading covers a point's day: its start day and all days before its end
 abbrev pub covers : Reading → (point day : ℕ) → Bool
 covers r p d = r.point == p && (nat_le r.start d && nat_lt d r.end)
+
+-- the days that a reading covers, in their order
+abbrev pub covered_days : Reading → List ℕ
+covered_days r = range_with_len r.start (r.end - r.start)
 
 -- the reading that an entry gives a point's day
 abbrev pub reading_in : (point day : ℕ) → Entry → Option Reading
