@@ -1,4 +1,4 @@
--- Why no number of a sheet passes its limit. Assumes nothing.
+-- Why no number of a sheet passes its limit.
 use Rattle.std.proofs.Common.{◌≡◌, ℕ, ◌+◌, ◌-◌, ◌*◌, ◌<◌, ◌≤◌, Bool, true, false, cond, ◌&&◌, eqb, ltb, leb, List, [], ◌∷◌, map, length, get_or, Some, None, sum, Option, unwrap_or, sym, refl, ap, ◌∙◌, ⊎_elim, arith}
 use Rattle.std.specs.List.{range_with_len, AllByRecursion}
 use Rattle.std.specs.Option.{option_map, option_or}
@@ -8,25 +8,24 @@ use Rattle.std.proofs.ByRecursion.{All-from_get_or, sum_by_le}
 use Rattle.std.proofs.lemmas.List.{get_or_past}
 use Rattle.std.proofs.lemmas.List.Sums.{get_or-le-sum_by, sum-map}
 use Rattle.std.proofs.lemmas.Bool.{and_from, and_parts, cases_lt, cond_both, eqb-false, le-leb, leb-true, lt-ltb, not-false}
+use Rattle.estimators.specs.Limits.{greatest_figure, last_day, last_point}
 use Rattle.allocation.specs.Loads.{largest_gate}
 use Rattle.allocation.specs.Laws.{sum_shares}
 use Rattle.allocation.specs.Limits.{largest_product}
 use Rattle.allocation.specs.Sharing.{can_share, shares}
-use Rattle.rules.specs.Calls.{Lawful, beyond_limits, entry_of}
-use Rattle.rules.specs.Figures.{estimate, estimate_counted, estimated, estimates, figure, generated, load, load_by, share_on, supplied, supplied_sum, weight, weights}
-use Rattle.rules.specs.History.{History, Setting, covering, gate_of}
+use Rattle.rules.specs.Calls.{IsLawful, entry_of, is_beyond_limits, largest_energy}
+use Rattle.rules.specs.Figures.{estimate, counted_estimate, is_estimated, estimates, figure, generated_figures, load, load_from_gate, share_on, supplied_figure, supplied_sum, weight, weights}
+use Rattle.rules.specs.History.{History, Setting, covering_reading, gate_of}
 use Rattle.rules.specs.declared.call.Call.{Call}
-use Rattle.rules.specs.declared.call.Call.TheVariants.{Enrol, EnterGate, EnterInterval, EnterDegreeDays, EnterReading, AskFigure, AskDay, AskRetailer}
+use Rattle.rules.specs.declared.call.Call.TheVariants.{EnterGate}
 use Rattle.rules.specs.declared.entry.Entry.{Entry}
-use Rattle.rules.specs.declared.entry.Entry.TheVariants.{Enrolled, GateEntered, IntervalEntered, DegreeDaysEntered, ReadingTaken}
+use Rattle.rules.specs.declared.entry.Entry.TheVariants.{GateEntered}
 use Rattle.rules.specs.declared.entry.GateDay.{GateDay}
 use Rattle.rules.specs.declared.entry.Reading.{Reading}
-use Rattle.rules.specs.Held.{Held}
-use Rattle.rules.proofs.Accepted.{accepted}
-use Rattle.rules.proofs.EndToEnd.{end_to_end}
-use Rattle.rules.proofs.InBook.{held_in_book}
-use Rattle.rules.proofs.LastCovering.{covering_held}
-use Rattle.rules.proofs.Balanced.{scaling_only_lowers}
+use Rattle.rules.specs.Readings.{Holds}
+use Rattle.rules.proofs.AcceptedEntries.{accepted, held_in_book}
+use Rattle.rules.proofs.HeldReadings.{end_to_end, covering_held}
+use Rattle.rules.proofs.Balance.{scaling_only_lowers}
 
 -- a share is at most the whole amount
 pub share_most : (c : ℕ) (ws : List ℕ) (k : ℕ) → 0 < sum ws → get_or (shares c ws) k 0 ≤ c
@@ -36,7 +35,8 @@ share_most c ws k some =
     (λ past. omega (arith, get_or_past (shares c ws) k 0 past)) (cases_lt k (length (shares c ws)))
 
 -- a row of n comes to at most n times its largest
-pub sum_bounded : (f : ℕ → ℕ) (most a n : ℕ) → ((k : ℕ) → a ≤ k → k < a + n → f k ≤ most) → sum (map f (range_with_len a n)) ≤ n * most
+pub sum_bounded : (f : ℕ → ℕ) (most a n : ℕ)
+    → ((k : ℕ) → a ≤ k → k < a + n → f k ≤ most) → sum (map f (range_with_len a n)) ≤ n * most
 sum_bounded f most a n within =
     let each : AllByRecursion (λ k. f k ≤ most) (range_with_len a n)
     = All-from_get_or (λ k. f k ≤ most) (range_with_len a n) 0
@@ -51,66 +51,96 @@ sum_bounded f most a n within =
 pub weight_positive : (s : Setting) (h : History) (d : ℕ) → 0 < weight s h d
 weight_positive s h d =
     let n = unwrap_or (load s h d) 0 in
-    cond_both (eqb n 0) 1 n (λ w. 0 < w) (λ _. omega arith) (λ above. let other = eqb-false n 0 above in ⊎_elim (λ (pos : 0 < n). pos) (λ (none : n ≤ 0). absurd (other (omega arith))) (cases_lt 0 n))
+    cond_both (eqb n 0) 1 n (λ w. 0 < w) (λ _. omega arith)
+    (λ above.
+    let other = eqb-false n 0 above in
+    ⊎_elim (λ (pos : 0 < n). pos) (λ (none : n ≤ 0). absurd (other (omega arith))) (cases_lt 0 n))
 
+-- a reading has a weight for each day that it covers
 pub length_weights : (s : Setting) (h : History) (r : Reading) → length (weights s h r) ≡ r.end - r.start
 length_weights s h r = length-map-range_with_len (weight s h) r.start (r.end - r.start)
 
+-- a reading that has a day has weight
 pub weights_positive : (s : Setting) (h : History) (r : Reading) → r.start < r.end → 0 < sum (weights s h r)
 weights_positive s h r ahead =
-    let first = get_or-map-range_with_len (weight s h) r.start (r.end - r.start) 0 r.start 0 (omega arith) (omega arith) in
+    let first = get_or-map-range_with_len (weight s h) r.start (r.end - r.start) 0 r.start 0 (omega arith)
+    (omega arith) in
     let in_sum = get_or-le-sum_by (λ x. x) (weights s h r) 0 0 (omega (arith, length_weights s h r)) in
     omega (arith, first, in_sum, weight_positive s h r.start)
 
 -- a held reading keeps within the limits of the book
-pub held_within : (s : Setting) (h : History) → Lawful s h → (r : Reading) → Held h r
-    → (1 ≤ r.point) × (r.point ≤ s.points) × (r.start < r.end) × (r.end ≤ s.days) × (r.energy ≤ 10000000)
+pub held_within : (s : Setting) (h : History) → IsLawful s h → (r : Reading) → Holds h r
+    → (1 ≤ r.point) × (r.point ≤ s.points) × (r.start < r.end) × (r.end ≤ s.days) × (r.energy ≤ largest_energy)
 held_within s h lawful r a =
     let limits = (held_in_book s h lawful r a).within in
     (limits.point_low, limits.point_high, (end_to_end s h lawful).ahead r a, limits.ends_in_book, limits.energy_limited)
 
 -- Supplied figures.
 
-pub share_bounded : (s : Setting) (h : History) → Lawful s h → (p d : ℕ) (r : Reading) → covering h p d ≡ Some r → share_on s h d r ≤ 10000000
+-- a supplied figure keeps within the largest energy of a reading
+pub share_bounded : (s : Setting) (h : History)
+    → IsLawful s h → (p d : ℕ) (r : Reading) → covering_reading h p d ≡ Some r → share_on s h d r ≤ largest_energy
 share_bounded s h lawful p d r cover =
     let limits = held_within s h lawful r (covering_held s h lawful p d r cover).0 in
     omega (arith, limits.4, share_most r.energy (weights s h r) (d - r.start) (weights_positive s h r limits.2))
 
-pub supplied_bounded : (s : Setting) (h : History) → Lawful s h → (p d : ℕ) → unwrap_or (supplied s h p d) 0 ≤ 10000000
-supplied_bounded s h lawful p d = go (covering h p d) refl
+-- so does what is supplied to a point, or nothing
+pub supplied_bounded : (s : Setting) (h : History)
+    → IsLawful s h → (p d : ℕ) → unwrap_or (supplied_figure s h p d) 0 ≤ largest_energy
+supplied_bounded s h lawful p d = go (covering_reading h p d) refl
   where
-    go : (o : Option Reading) → covering h p d ≡ o → unwrap_or (option_map (share_on s h d) o) 0 ≤ 10000000
+    go : (o : Option Reading)
+        → covering_reading h p d ≡ o → unwrap_or (option_map (share_on s h d) o) 0 ≤ largest_energy
     go None e = omega arith
     go (Some r) e = share_bounded s h lawful p d r e
 
-pub supplied_sum_bounded : (s : Setting) (h : History) → Lawful s h → s.points ≤ 256 → (d : ℕ) → supplied_sum s h d ≤ 2560000000
+-- what is supplied to all points of a book
+pub supplied_sum_bounded : (s : Setting) (h : History)
+    → IsLawful s h → s.points ≤ last_point → (d : ℕ) → supplied_sum s h d ≤ last_point * largest_energy
 supplied_sum_bounded s h lawful few d =
-    omega (arith, sum_bounded (λ p. unwrap_or (supplied s h p d) 0) 10000000 1 s.points (λ p low high. supplied_bounded s h lawful p d))
+    omega (
+      arith,
+      sum_bounded (λ p. unwrap_or (supplied_figure s h p d) 0) largest_energy 1 s.points
+          (λ p low high. supplied_bounded s h lawful p d),
+    )
 
 -- Figures.
 
-counted_bounded : (b : Bool) (o : Option ℕ) → ((x : ℕ) → o ≡ Some x → x ≤ 1000000) → cond b (unwrap_or o 0) 0 ≤ 1000000
+-- an estimate that may count keeps within the largest
+counted_bounded : (b : Bool) (o : Option ℕ)
+    → ((x : ℕ) → o ≡ Some x → x ≤ greatest_figure) → cond b (unwrap_or o 0) 0 ≤ greatest_figure
 counted_bounded true None most = omega arith
 counted_bounded true (Some x) most = most x refl
 counted_bounded false o most = omega arith
 
 -- the estimates that count keep within the largest
-pub estimates_bounded : (s : Setting) (h : History) (d : ℕ) → ((p x : ℕ) → estimate s h p d ≡ Some x → x ≤ 1000000) → (k : ℕ) → get_or (estimates s h d) k 0 ≤ 1000000
+pub estimates_bounded : (s : Setting) (h : History) (d : ℕ)
+    → ((p x : ℕ) → estimate s h p d ≡ Some x → x ≤ greatest_figure)
+    → (k : ℕ) → get_or (estimates s h d) k 0 ≤ greatest_figure
 estimates_bounded s h d most k =
     ⊎_elim
     (λ low.
     omega (
       arith,
-      get_or-map-range_with_len (λ p. estimate_counted s h p d) 1 s.points k (k + 1) 0 low (omega arith),
-      counted_bounded (estimated h (k + 1) d) (estimate s h (k + 1) d) (most (k + 1)),
+      get_or-map-range_with_len (λ p. counted_estimate s h p d) 1 s.points k (k + 1) 0 low (omega arith),
+      counted_bounded (is_estimated h (k + 1) d) (estimate s h (k + 1) d) (most (k + 1)),
     ))
-    (λ high. omega (arith, get_or_past (estimates s h d) k 0 (omega (arith, length-map-range_with_len (λ p. estimate_counted s h p d) 1 s.points))))
+    (λ high. omega (
+      arith,
+      get_or_past (estimates s h d) k 0
+          (omega (arith, length-map-range_with_len (λ p. counted_estimate s h p d) 1 s.points)),
+    ))
     (cases_lt k s.points)
 
-pub figure_bounded : (s : Setting) (h : History) → Lawful s h → (d : ℕ) → ((p x : ℕ) → estimate s h p d ≡ Some x → x ≤ 1000000) → (p : ℕ) → figure s h p d ≤ 10000000
-figure_bounded s h lawful d most p = go (covering h p d) refl
+-- every figure keeps within the largest energy of a reading, where estimates keep within theirs
+pub figure_bounded : (s : Setting) (h : History)
+    → IsLawful s h → (d : ℕ) → ((p x : ℕ) → estimate s h p d ≡ Some x → x ≤ greatest_figure) → (p : ℕ)
+    → figure s h p d ≤ largest_energy
+figure_bounded s h lawful d most p = go (covering_reading h p d) refl
   where
-    go : (o : Option Reading) → covering h p d ≡ o → unwrap_or (option_map (share_on s h d) o) (get_or (generated s h d) (p - 1) 0) ≤ 10000000
+    go : (o : Option Reading)
+        → covering_reading h p d ≡ o
+        → unwrap_or (option_map (share_on s h d) o) (get_or (generated_figures s h d) (p - 1) 0) ≤ largest_energy
     go None e = omega (arith, scaling_only_lowers s h d (p - 1), estimates_bounded s h d most (p - 1))
     go (Some r) e = share_bounded s h lawful p d r e
 
@@ -123,56 +153,53 @@ gate_within (Some gate) = leb gate.energy_in largest_gate
 
 -- the same of what an entry says
 abbrev entry_within : Option Entry → Bool
-entry_within None = true
-entry_within (Some (Enrolled point enrolment)) = true
 entry_within (Some (GateEntered day gate)) = gate_within (Some gate)
-entry_within (Some (IntervalEntered day meter energy)) = true
-entry_within (Some (DegreeDaysEntered day count)) = true
-entry_within (Some (ReadingTaken r)) = true
+entry_within o = true
 
-within_limits : (s : Setting) (c : Call) → beyond_limits s c ≡ false → entry_within (entry_of s c) ≡ true
-within_limits s (Enrol point retailer start) e = refl
+-- a call within its limits enters gate energies within theirs
+within_limits : (s : Setting) (c : Call) → is_beyond_limits s c ≡ false → entry_within (entry_of s c) ≡ true
 within_limits s (EnterGate date energy_in energy_out) e =
-    (and_parts (leb energy_in largest_gate) (leb energy_out largest_gate) (not-false (leb energy_in largest_gate && leb energy_out largest_gate) e)).0
-within_limits s (EnterInterval date meter energy) e = refl
-within_limits s (EnterDegreeDays date count) e = refl
-within_limits s (EnterReading delivery) e = refl
-within_limits s (AskFigure point date) e = refl
-within_limits s (AskDay date) e = refl
-within_limits s (AskRetailer retailer date) e = refl
+    (and_parts (leb energy_in largest_gate) (leb energy_out largest_gate)
+    (not-false (leb energy_in largest_gate && leb energy_out largest_gate) e)).0
+within_limits s c e = refl
 
-either_within : (b : Bool) (gate : GateDay) (o : Option GateDay) → gate_within (Some gate) ≡ true → gate_within o ≡ true → gate_within (option_or (cond b (Some gate) None) o) ≡ true
+-- of two gate entries within the limit, the one taken is too
+either_within : (b : Bool) (gate : GateDay) (o : Option GateDay)
+    → gate_within (Some gate) ≡ true → gate_within o ≡ true
+    → gate_within (option_or (cond b (Some gate) None) o) ≡ true
 either_within true gate o here later = here
 either_within false gate o here later = later
 
-gates_within : (s : Setting) (h : History) (d : ℕ) → Lawful s h → gate_within (gate_of h d) ≡ true
+-- every gate entry of a book keeps within the limit
+gates_within : (s : Setting) (h : History) (d : ℕ) → IsLawful s h → gate_within (gate_of h d) ≡ true
 gates_within s [] d lawful = refl
-gates_within s (Enrolled q e ∷ h) d lawful = gates_within s h d lawful.0
 gates_within s (GateEntered day gate ∷ h) d lawful =
     let c = lawful.1.0 in
-    let limits : gate_within (Some gate) ≡ true = ap entry_within (sym lawful.1.2) ∙ within_limits s c (accepted s h c lawful.1.1).0 in
+    let limits : gate_within (Some gate) ≡ true =
+    ap entry_within (sym lawful.1.2) ∙ within_limits s c (accepted s h c lawful.1.1).0 in
     either_within (eqb day d) gate (gate_of h d) limits (gates_within s h d lawful.0)
-gates_within s (IntervalEntered day meter energy ∷ h) d lawful = gates_within s h d lawful.0
-gates_within s (DegreeDaysEntered day count ∷ h) d lawful = gates_within s h d lawful.0
-gates_within s (ReadingTaken r ∷ h) d lawful = gates_within s h d lawful.0
+gates_within s (e ∷ h) d lawful = gates_within s h d lawful.0
 
 -- a load is at most what came in through the gate
-pub load_bounded : (s : Setting) (h : History) → Lawful s h → (d n : ℕ) → load s h d ≡ Some n → n ≤ 1000000000
+pub load_bounded : (s : Setting) (h : History) → IsLawful s h → (d n : ℕ) → load s h d ≡ Some n → n ≤ largest_gate
 load_bounded s h lawful d n loaded = go (gate_of h d) (gates_within s h d lawful) loaded
   where
-    go : (o : Option GateDay) → gate_within o ≡ true → option_map (load_by s h d) o ≡ Some n → n ≤ 1000000000
+    go : (o : Option GateDay) → gate_within o ≡ true → option_map (load_from_gate s h d) o ≡ Some n → n ≤ largest_gate
     go None within e = omega (arith, ap (λ x. unwrap_or x 0) e)
     go (Some gate) within e =
-        let is : load_by s h d gate ≡ n = ap (λ x. unwrap_or x 0) e in
+        let is : load_from_gate s h d gate ≡ n = ap (λ x. unwrap_or x 0) e in
         omega (arith, leb-true gate.energy_in largest_gate within, is)
 
 -- Sharing.
 
-pub reading_shareable : (s : Setting) (h : History) → Lawful s h → s.days ≤ 400 → (r : Reading) → Held h r → can_share 1000000000 r.energy (weights s h r) ≡ true
+-- a held reading can be shared over its days
+pub reading_shareable : (s : Setting) (h : History)
+    → IsLawful s h → s.days ≤ last_day → (r : Reading)
+    → Holds h r → can_share largest_gate r.energy (weights s h r) ≡ true
 reading_shareable s h lawful few r a =
     let limits = held_within s h lawful r a in
-    let rows : length (weights s h r) ≤ 400 = omega (arith, length_weights s h r, limits.3) in
-    let product = mul-le r.energy (length (weights s h r)) 10000000 400 limits.4 rows in
-    and_from (leb (r.energy * length (weights s h r) * 1000000000) largest_product) (ltb 0 (sum (weights s h r)))
-    (le-leb (r.energy * length (weights s h r) * 1000000000) largest_product (omega (arith, product)))
+    let rows : length (weights s h r) ≤ last_day = omega (arith, length_weights s h r, limits.3) in
+    let product = mul-le r.energy (length (weights s h r)) largest_energy last_day limits.4 rows in
+    and_from (leb (r.energy * length (weights s h r) * largest_gate) largest_product) (ltb 0 (sum (weights s h r)))
+    (le-leb (r.energy * length (weights s h r) * largest_gate) largest_product (omega (arith, product)))
     (lt-ltb 0 (sum (weights s h r)) (weights_positive s h r limits.2))

@@ -1,5 +1,7 @@
 -- What a book was opened with, and what it has accepted since.
-use Rattle.std.specs.Prelude.{ℕ, Bool, cond, ◌&&◌, List, [], ◌∷◌, Some, None, Option, ◌==◌, nat_le, nat_lt}
+-- Days are days of the book, from 0; a point is p and a day d.
+use Rattle.std.specs.Prelude.{ℕ, ◌-◌, Bool, if◌then◌else◌, ◌&&◌, List, [], ◌∷◌, Some, None, Option, ◌==◌, nat_le, nat_lt}
+use Rattle.std.specs.List.{range_with_len}
 use Rattle.std.specs.Option.{option_or, unwrap_or}
 use Rattle.estimators.specs.Meaning.{Meaning}
 use Rattle.rules.specs.declared.entry.Enrolment.{Enrolment}
@@ -31,66 +33,59 @@ abbrev pub latest : {X : Type 0} → (Entry → Option X) → History → Option
 latest says [] = None
 latest says (e ∷ h) = option_or (says e) (latest says h)
 
+-- What one entry says.
+
 -- the gate energies that an entry gives a day
-abbrev pub gate_in : ℕ → Entry → Option GateDay
-gate_in d (Enrolled point enrolment) = None
-gate_in d (GateEntered day gate) = cond (day == d) (Some gate) None
-gate_in d (IntervalEntered day meter energy) = None
-gate_in d (DegreeDaysEntered day count) = None
-gate_in d (ReadingTaken r) = None
+abbrev pub gate_in : (day : ℕ) → Entry → Option GateDay
+gate_in d (GateEntered day gate) = if day == d then Some gate else None
+gate_in d e = None
 
 -- the energy that an entry gives an interval meter on a day
-abbrev pub interval_in : ℕ → ℕ → Entry → Option ℕ
-interval_in m d (Enrolled point enrolment) = None
-interval_in m d (GateEntered day gate) = None
-interval_in m d (IntervalEntered day meter energy) = cond (meter == m && day == d) (Some energy) None
-interval_in m d (DegreeDaysEntered day count) = None
-interval_in m d (ReadingTaken r) = None
+abbrev pub interval_in : (meter day : ℕ) → Entry → Option ℕ
+interval_in m d (IntervalEntered day meter energy) = if meter == m && day == d then Some energy else None
+interval_in m d e = None
 
 -- the degree-day count that an entry gives a day
-abbrev pub count_in : ℕ → Entry → Option ℕ
-count_in d (Enrolled point enrolment) = None
-count_in d (GateEntered day gate) = None
-count_in d (IntervalEntered day meter energy) = None
-count_in d (DegreeDaysEntered day count) = cond (day == d) (Some count) None
-count_in d (ReadingTaken r) = None
+abbrev pub count_in : (day : ℕ) → Entry → Option ℕ
+count_in d (DegreeDaysEntered day count) = if day == d then Some count else None
+count_in d e = None
 
 -- the enrolment that an entry gives a point
-abbrev pub enrolment_in : ℕ → Entry → Option Enrolment
-enrolment_in p (Enrolled point enrolment) = cond (point == p) (Some enrolment) None
-enrolment_in p (GateEntered day gate) = None
-enrolment_in p (IntervalEntered day meter energy) = None
-enrolment_in p (DegreeDaysEntered day count) = None
-enrolment_in p (ReadingTaken r) = None
+abbrev pub enrolment_in : (point : ℕ) → Entry → Option Enrolment
+enrolment_in p (Enrolled point enrolment) = if point == p then Some enrolment else None
+enrolment_in p e = None
 
 -- a reading covers a point's day: its start day and all days before its end
-abbrev pub covers : Reading → ℕ → ℕ → Bool
+abbrev pub covers : Reading → (point day : ℕ) → Bool
 covers r p d = r.point == p && (nat_le r.start d && nat_lt d r.end)
 
+-- the days that a reading covers, in their order
+abbrev pub covered_days : Reading → List ℕ
+covered_days r = range_with_len r.start (r.end - r.start)
+
 -- the reading that an entry gives a point's day
-abbrev pub reading_in : ℕ → ℕ → Entry → Option Reading
-reading_in p d (Enrolled point enrolment) = None
-reading_in p d (GateEntered day gate) = None
-reading_in p d (IntervalEntered day meter energy) = None
-reading_in p d (DegreeDaysEntered day count) = None
-reading_in p d (ReadingTaken r) = cond (covers r p d) (Some r) None
+abbrev pub reading_in : (point day : ℕ) → Entry → Option Reading
+reading_in p d (ReadingTaken r) = if covers r p d then Some r else None
+reading_in p d e = None
+
+-- What a history says.
 
 -- the latest gate entry of a day
-abbrev pub gate_of : History → ℕ → Option GateDay
+abbrev pub gate_of : History → (day : ℕ) → Option GateDay
 gate_of h d = latest (gate_in d) h
 
 -- the latest energy of an interval meter on a day; one never entered counts as 0
-abbrev pub interval_of : History → ℕ → ℕ → ℕ
-interval_of h m d = unwrap_or (latest (interval_in m d) h) 0
+abbrev pub interval_energy : History → (meter day : ℕ) → ℕ
+interval_energy h m d = unwrap_or (latest (interval_in m d) h) 0
 
 -- the last degree-day count of a day
-abbrev pub count_of : History → ℕ → Option ℕ
-count_of h d = latest (count_in d) h
+abbrev pub degree_day_count : History → (day : ℕ) → Option ℕ
+degree_day_count h d = latest (count_in d) h
 
 -- a point's enrolment
-abbrev pub enrolment_of : History → ℕ → Option Enrolment
+abbrev pub enrolment_of : History → (point : ℕ) → Option Enrolment
 enrolment_of h p = latest (enrolment_in p) h
 
 -- the last accepted reading that covers a point's day
-abbrev pub covering : History → ℕ → ℕ → Option Reading
-covering h p d = latest (reading_in p d) h
+abbrev pub covering_reading : History → (point day : ℕ) → Option Reading
+covering_reading h p d = latest (reading_in p d) h

@@ -1,4 +1,4 @@
-use Rattle.rules.proofs.Local.{count_elsewhere, count_here}
+use Rattle.rules.proofs.MovedDays.{count_elsewhere, count_here}
 use Rattle.rules.proofs.figure_laws.counts_move_estimates.Goals as goal
 
 pub returns : goal.returns

@@ -1,4 +1,4 @@
-use Rattle.rules.proofs.Balanced.{balances}
+use Rattle.rules.proofs.Balance.{balances}
 use Rattle.rules.proofs.figure_laws.each_day_balances.Goals as goal
 
 pub returns : goal.returns

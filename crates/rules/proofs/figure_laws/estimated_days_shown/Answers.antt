@@ -1,5 +1,5 @@
-use Rattle.rules.proofs.Lawfully.{figure_before}
-use Rattle.rules.proofs.Showing.{shows_estimate, shows_share}
+use Rattle.rules.proofs.MovedDays.{figure_before}
+use Rattle.rules.proofs.Balance.{shows_estimate, shows_share}
 use Rattle.rules.proofs.figure_laws.estimated_days_shown.Goals as goal
 
 pub returns : goal.returns

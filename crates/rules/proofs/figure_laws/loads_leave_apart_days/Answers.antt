@@ -1,4 +1,4 @@
-use Rattle.rules.proofs.Local.{gate_moves, interval_moves}
+use Rattle.rules.proofs.MovedDays.{gate_moves, interval_moves}
 use Rattle.rules.proofs.figure_laws.loads_leave_apart_days.Goals as goal
 
 pub returns : goal.returns

@@ -1,4 +1,4 @@
-use Rattle.rules.proofs.Lawfully.{gate_moves_joined, interval_moves_joined}
+use Rattle.rules.proofs.MovedDays.{gate_moves_joined, interval_moves_joined}
 use Rattle.rules.proofs.figure_laws.loads_move_joined_days.Goals as goal
 
 pub returns : goal.returns

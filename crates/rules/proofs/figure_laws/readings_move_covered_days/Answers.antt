@@ -1,4 +1,4 @@
-use Rattle.rules.proofs.Local.{reading_elsewhere, reading_others, stays_covered}
+use Rattle.rules.proofs.MovedDays.{reading_elsewhere, reading_others, stays_covered}
 use Rattle.rules.proofs.figure_laws.readings_move_covered_days.Goals as goal
 
 pub returns : goal.returns

@@ -1,4 +1,4 @@
-use Rattle.rules.proofs.Retailers.{retailers_all, retailers_balance}
+use Rattle.rules.proofs.Balance.{retailers_all, retailers_balance}
 use Rattle.rules.proofs.figure_laws.retailers_balance.Goals as goal
 
 pub returns : goal.returns

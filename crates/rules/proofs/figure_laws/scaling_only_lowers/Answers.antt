@@ -1,4 +1,4 @@
-use Rattle.rules.proofs.Balanced.{scaling_only_lowers}
+use Rattle.rules.proofs.Balance.{scaling_only_lowers}
 use Rattle.rules.proofs.figure_laws.scaling_only_lowers.Goals as goal
 
 pub returns : goal.returns

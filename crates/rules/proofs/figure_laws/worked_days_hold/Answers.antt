@@ -11,7 +11,14 @@ returns c = record {
   equal_day = record { loads = refl; supplies = refl; generates = refl; leaves = refl; exceeds = refl; lacks = refl };
   beyond = record { at_1 = refl; at_2 = refl; at_3 = refl; at_4 = refl };
   beyond_day = record { loads = refl; supplies = refl; generates = refl; leaves = refl; exceeds = refl; lacks = refl };
-  missing_first = record { loads = refl; supplies = refl; generates = refl; leaves = refl; exceeds = refl; lacks = refl };
+  missing_first = record {
+    loads = refl;
+    supplies = refl;
+    generates = refl;
+    leaves = refl;
+    exceeds = refl;
+    lacks = refl;
+  };
   first_day = record { loads = refl; supplies = refl; generates = refl; leaves = refl; exceeds = refl; lacks = refl };
   second_day = record { loads = refl; supplies = refl; generates = refl; leaves = refl; exceeds = refl; lacks = refl };
   joined_first = refl;

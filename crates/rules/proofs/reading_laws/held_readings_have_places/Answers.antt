@@ -1,4 +1,4 @@
-use Rattle.rules.proofs.Replacing.{within_places}
+use Rattle.rules.proofs.HeldReadings.{within_places}
 use Rattle.rules.proofs.reading_laws.held_readings_have_places.Goals as goal
 
 pub returns : goal.returns

@@ -1,4 +1,4 @@
-use Rattle.rules.proofs.EndToEnd.{end_to_end}
+use Rattle.rules.proofs.HeldReadings.{end_to_end}
 use Rattle.rules.proofs.reading_laws.held_readings_lie_end_to_end.Goals as goal
 
 pub returns : goal.returns

@@ -1,4 +1,4 @@
-use Rattle.rules.proofs.InBook.{held_in_book}
+use Rattle.rules.proofs.AcceptedEntries.{held_in_book}
 use Rattle.rules.proofs.reading_laws.held_readings_lie_in_the_book.Goals as goal
 
 pub returns : goal.returns

@@ -1,4 +1,4 @@
-use Rattle.rules.proofs.LastCovering.{last_covering}
+use Rattle.rules.proofs.HeldReadings.{last_covering}
 use Rattle.rules.proofs.reading_laws.last_covering_reading_is_held.Goals as goal
 
 pub returns : goal.returns

@@ -3,7 +3,7 @@ use Rattle.terms.specs.declared.reading_type.ReadingType.TheVariants.{Actual}
 use Rattle.calendar.specs.Digits.{is_date, day_number_of}
 use Rattle.calendar.specs.Gregorian.{leap, month_lengths, month_length, exists, days_before_month, year_length, days_before_year}
 use Rattle.rules.specs.declared.call.Call.TheVariants.{Enrol, EnterGate}
-use Rattle.rules.specs.WorkedReadings.{told}
+use Rattle.rules.specs.WorkedReadings.{delivery}
 use Rattle.rules.proofs.reading_laws.worked_readings_hold.Goals as goal
 
 pub returns : goal.returns
@@ -11,10 +11,13 @@ unfolding is_date day_number_of leap month_lengths month_length exists days_befo
 returns c = record {
   lawful = (
     (
-      (((tt, (Enrol 1 1 20240701, refl, refl)), (EnterGate 20240701 100 0, refl, refl)), (EnterGate 20240702 300 0, refl, refl)),
+      (
+        ((tt, (Enrol 1 1 20240701, refl, refl)), (EnterGate 20240701 100 0, refl, refl)),
+        (EnterGate 20240702 300 0, refl, refl),
+      ),
       (EnterGate 20240703 50 0, refl, refl),
     ),
-    (told 1 20240701 20240703 (pos 200) Actual, refl, refl),
+    (delivery 1 20240701 20240703 (pos 200) Actual, refl, refl),
   );
   negative = refl;
   not_enrolled = refl;

@@ -1,5 +1,5 @@
 use Rattle.rules.proofs.Bounds.{figure_bounded, held_within, load_bounded, reading_shareable, share_bounded, share_most, sum_bounded, supplied_bounded, supplied_sum_bounded, weights_positive}
-use Rattle.rules.proofs.reach_laws.figures_keep_limits.Goals as goal
+use Rattle.rules.proofs.figure_laws.figures_keep_limits.Goals as goal
 
 pub returns : goal.returns
 returns c = record {

@@ -1,5 +1,0 @@
-use Rattle.rules.proofs.Balanced.{supplied_any_estimator, supplied_shows}
-use Rattle.rules.proofs.figure_laws.supplied_stands.Goals as goal
-
-pub returns : goal.returns
-returns c = record { share = supplied_shows; any_estimator = supplied_any_estimator }

@@ -1,5 +1,0 @@
-use Rattle.rules.proofs.LoadMoved.{gate_moved, interval_moved}
-use Rattle.rules.proofs.reach_laws.loads_move_one_day.Goals as goal
-
-pub returns : goal.returns
-returns c = record { by_gate = gate_moved; by_interval = interval_moved }
