@@ -7,9 +7,11 @@ use Rattle.rules.specs.declared.entry.GateDay.{GateDay}
 use Rattle.allocation.specs.Loads.{largest_gate, largest_unaccounted}
 use Rattle.ledger.specs.declared.opening.Opening.{Opening}
 
--- a book has at most 400 days, 256 points and 2,000 ten-thousandths of unaccounted-for gas, and the day after its last is a date
+-- the days, the points and the share of unaccounted-for gas of a book are within their limits, and the day after its last is a date
 abbrev pub opening_within : Opening → Bool
-opening_within o = nat_le o.days last_day && (nat_le o.points last_point && (nat_le o.unaccounted largest_unaccounted && nat_lt (o.first + o.days) days_in_all))
+opening_within o =
+    nat_le o.days last_day
+    && (nat_le o.points last_point && (nat_le o.unaccounted largest_unaccounted && nat_lt (o.first + o.days) days_in_all))
 
 -- the gate energies of a day, if it has any, are within their limits
 abbrev pub gate_within : Option GateDay → Bool
