@@ -1,4 +1,5 @@
--- What a ledger holds, when it is the ledger of a history, what its calls give, and what an entry changes.
+-- What a ledger holds, when it is the ledger of a history, what its calls give, and what an
+-- entry changes.
 use Rattle.std.specs.Prelude.{◌≡◌, ℕ, ◌+◌, ◌-◌, ◌*◌, ◌<◌, ◌≤◌, Bool, T, if◌then◌else◌, not, ◌&&◌, List, [], ◌∷◌, map, drop, Some, None, Ok, Err, vec_items, vec_len, sum, count_by, Option, Result, Vec, OnErr, nat_lt, slice_index, slice_index_or, slice_set}
 use Rattle.std.specs.List.{range_with_len}
 use Rattle.std.specs.declared.alloc.Global.{Global}
@@ -63,7 +64,8 @@ meters_sum l day n = sum (map (λ meter. interval_at l meter day) (range_with_le
 -- the net system load of a day with these gate energies
 abbrev pub load_at : Ledger → ℕ → GateDay → ℕ
 load_at l day gate =
-    net_load gate.energy_in gate.energy_out (adjusted (meters_sum l day meters) l.opening.unaccounted)
+    net_load gate.energy_in gate.energy_out
+    (adjusted (meters_sum l day meters) l.opening.unaccounted)
 
 -- the enrolment of a point of the book; another point has none
 abbrev pub enrolment_at : Ledger → ℕ → Option Enrolment
@@ -76,8 +78,8 @@ beyond_days l = drop (l.opening.days * meters) (vec_items l.intervals)
 
 -- The ledger of a history.
 
--- the ledger says what the history has told since the opening, and its places hold the held readings, each in one place:
--- whatever is asked of readings, as many places as held readings pass
+-- the ledger says what the history has told since the opening, and its places hold the held
+-- readings, each in one place: whatever is asked of readings, as many places as held readings pass
 pub record IsLedgerOf (s : Setting) (h : History) (l : Ledger) : Type 0 where
   pub first : l.opening.first ≡ s.first
   pub days : l.opening.days ≡ s.days
@@ -87,7 +89,8 @@ pub record IsLedgerOf (s : Setting) (h : History) (l : Ledger) : Type 0 where
   pub gates : (d : ℕ) → gate_at l d ≡ gate_of h d
   pub intervals : (m d : ℕ) → interval_at l m d ≡ interval_of h m d
   pub enrolments : (p : ℕ) → enrolment_at l p ≡ enrolment_of h p
-  pub readings : (test : Reading → Bool) → count_by (holds_passing test) (vec_items l.places) ≡ count_by test (held_of h)
+  pub readings : (test : Reading → Bool)
+      → count_by (holds_passing test) (vec_items l.places) ≡ count_by test (held_of h)
 
 -- P holds of every setting and history that the ledger is of.
 -- A history kept as a ghost field of the ledger would promise less: this says it of every one.
@@ -98,10 +101,12 @@ EachLedgerHistory l P = (s : Setting) (h : History) → IsLedgerOf s h l → P s
 
 -- a call is refused as the law says: by the first condition that holds, with the day that it names
 abbrev pub IsCallRefusal : Setting → History → Call → Refusal → Type 0
-IsCallRefusal s h c e = (refusal s h c ≡ Some (number_of e)) × (day_named e ≡ named_by s h c (number_of e))
+IsCallRefusal s h c e =
+    (refusal s h c ≡ Some (number_of e)) × (day_named e ≡ named_by s h c (number_of e))
 
 -- an entry is judged as the law says: it is refused, or what is given makes the call's entry
-abbrev pub IsEntryJudgement : {X : Type 0} → Setting → History → Call → (X → Entry) → Result X Refusal → Type 0
+abbrev pub IsEntryJudgement : {X : Type 0}
+    → Setting → History → Call → (X → Entry) → Result X Refusal → Type 0
 IsEntryJudgement s h c made (Ok x) = (refusal s h c ≡ None) × (entry_of s c ≡ Some (made x))
 IsEntryJudgement s h c made (Err e) = IsCallRefusal s h c e
 
@@ -122,23 +127,27 @@ abbrev pub IsLedgerAfter : Setting → History → Ledger → Result Entry Refus
 IsLedgerAfter s h l (Ok e) = IsLedgerOf s (e ∷ h) l
 IsLedgerAfter s h l (Err e) = IsLedgerOf s h l
 
--- whatever history the ledger was of, the answer is the law's, and the ledger is of what was accepted
+-- of every history that the ledger was of, the entry is judged as the law says, and the ledger is
+-- of what was accepted
 abbrev pub EntersByLaw : Call → Ledger → Result Entry Refusal → Ledger → Type 0
-EntersByLaw c before r after =
-    EachLedgerHistory before (λ s h. IsEntryJudgement s h c (λ e. e) r × IsLedgerAfter s h after r)
+EntersByLaw c old r new =
+    EachLedgerHistory old (λ s h. IsEntryJudgement s h c (λ e. e) r × IsLedgerAfter s h new r)
 
--- an entry is made or refused: a refused one leaves the ledger as it was, and none touches what lies beyond the book's days
-pub record EntersInLedger (c : Call) (before : Ledger) (r : Result Entry Refusal) (after : Ledger) : Type 0 where
-  pub refused : OnErr r (after ≡ before)
-  pub law : EntersByLaw c before r after
-  pub beyond : beyond_days after ≡ beyond_days before
+-- an entry is made or refused: a refused one leaves the ledger as it was, and none touches what
+-- lies beyond the book's days
+pub record EntersInLedger (c : Call) (old : Ledger) (r : Result Entry Refusal) (new : Ledger) : Type 0 where
+  pub refused : OnErr r (new ≡ old)
+  pub law : EntersByLaw c old r new
+  pub beyond : beyond_days new ≡ beyond_days old
 
--- what opens is of the empty history, whatever the estimator means, and leaves the interval places beyond its days as they were
+-- what opens is of the empty history, whatever the estimator means, and leaves the interval places
+-- beyond its days as they were
 abbrev pub OpensLedger : OpeningRequest → Lists → Result Ledger (Unopened Lists) → Type 0
 OpensLedger q lists (Ok l) =
     (opening_refusal q (vec_len lists.intervals) (vec_len lists.places) ≡ None)
     × ((m : Meaning) (u : ℕ → Meaning) → IsLedgerOf (setting_of q (vec_len lists.places) m u) [] l)
-    × (drop (q.days * meters) (vec_items l.intervals) ≡ drop (q.days * meters) (vec_items lists.intervals))
+    × (drop (q.days * meters) (vec_items l.intervals)
+    ≡ drop (q.days * meters) (vec_items lists.intervals))
 OpensLedger q lists (Err e) =
     opening_refusal q (vec_len lists.intervals) (vec_len lists.places) ≡ Some (number_of e.refusal)
 
@@ -158,13 +167,15 @@ pub record WithGate (day : ℕ) (gate : GateDay) (old new : Ledger) : Type 0 whe
 
 -- a ledger can hold such an energy of such a meter and day
 abbrev pub FitsInterval : Ledger → ℕ → ℕ → ℕ → Type 0
-FitsInterval l day meter energy = HasDay l day × ((1 ≤ meter) × ((meter ≤ meters) × T (interval_within energy)))
+FitsInterval l day meter energy =
+    HasDay l day × ((1 ≤ meter) × ((meter ≤ meters) × T (interval_within energy)))
 
 -- a meter has a new energy on a day
 pub record WithInterval (day meter energy : ℕ) (old new : Ledger) : Type 0 where
   pub opening : new.opening ≡ old.opening
   pub gates : new.gates ≡ old.gates
-  pub intervals : vec_items new.intervals ≡ slice_set (vec_items old.intervals) (day * meters + (meter - 1)) energy
+  pub intervals : vec_items new.intervals
+      ≡ slice_set (vec_items old.intervals) (day * meters + (meter - 1)) energy
   pub enrolments : new.enrolments ≡ old.enrolments
   pub places : new.places ≡ old.places
 
@@ -176,7 +187,8 @@ pub record WithEnrolment (point : ℕ) (enrolment : Enrolment) (old new : Ledger
   pub enrolments : new.enrolments ≡ slice_set old.enrolments (point - 1) (Some enrolment)
   pub places : new.places ≡ old.places
 
--- a reading is held and those that it replaces are not; whatever is asked of readings, the places that pass are counted so
+-- a reading is held and those that it replaces are not; whatever is asked of readings, the places
+-- that pass are counted so
 pub record WithReading (r : Reading) (old new : Ledger) : Type 0 where
   pub opening : new.opening ≡ old.opening
   pub gates : new.gates ≡ old.gates
@@ -185,4 +197,5 @@ pub record WithReading (r : Reading) (old new : Ledger) : Type 0 where
   pub room : vec_len new.places ≡ vec_len old.places
   pub places : (test : Reading → Bool)
       → count_by (holds_passing test) (vec_items new.places)
-      ≡ count_by (holds_passing (λ x. not (replaces r x) && test x)) (vec_items old.places) + (if test r then 1 else 0)
+      ≡ count_by (holds_passing (λ x. not (replaces r x) && test x)) (vec_items old.places)
+      + (if test r then 1 else 0)

@@ -15,9 +15,11 @@ use Rattle.ledger.specs.declared.opening.OpeningRequest.{OpeningRequest}
 
 -- a day number is that of a day of the book, or of one at most so many days later
 abbrev pub has_day_number : Opening → ℕ → ℕ → Bool
-has_day_number o later day_number = nat_le o.first day_number && nat_lt day_number (o.first + o.days + later)
+has_day_number o later day_number =
+    nat_le o.first day_number && nat_lt day_number (o.first + o.days + later)
 
--- the day of a date is judged so: refused by number 4 where there is no such date, and by 5 where it lies outside the book
+-- the day of a date is judged so: refused by number 4 where there is no such date, and by 5 where
+-- it lies outside the book
 abbrev pub JudgesDay : Opening → ℕ → Result ℕ Refusal → Type 0
 JudgesDay o date r =
     MatchBool (is_date date)
@@ -27,7 +29,8 @@ JudgesDay o date r =
 -- 3: a number is beyond its limits, or the last day is later than 30 December 2099
 abbrev pub is_opening_beyond_limits : OpeningRequest → Bool
 is_opening_beyond_limits q =
-    not (between 1 last_day q.days && (between 1 last_point q.points && nat_le q.unaccounted largest_unaccounted))
+    not (between 1 last_day q.days
+    && (between 1 last_point q.points && nat_le q.unaccounted largest_unaccounted))
     || (is_date q.first_date && not (nat_lt (day_number_of q.first_date + q.days) days_in_all))
 
 -- 15: the interval list has fewer places than meters on all days, or the reading list none

@@ -24,4 +24,5 @@ freed_place new (Some old) = if replaces new old then None else Some old
 -- a reading is put into one place that was free; the others stay
 abbrev pub TakesPlace : Reading → List (Option Reading) → List (Option Reading) → Type 0
 TakesPlace r old new =
-    (k : ℕ) × (k < length old) × (slice_index_or old k None ≡ None) × (new ≡ slice_set old k (Some r))
+    (k : ℕ) × (k < length old) × (slice_index_or old k None ≡ None)
+    × (new ≡ slice_set old k (Some r))

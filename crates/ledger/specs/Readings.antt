@@ -1,4 +1,5 @@
--- What a ledger's tables say of marks, replaced readings and room, and the two steps in which a reading is judged.
+-- What a ledger's tables say of marks, replaced readings and room, and the two steps in which a
+-- reading is judged.
 use Rattle.std.specs.Prelude.{◌≡◌, ℕ, ◌<◌, Bool, if◌then◌else◌, not, ◌&&◌, ◌||◌, [], ◌∷◌, Some, None, Ok, Err, vec_items, vec_len, count_by, Option, Result, ◌==◌, nat_le, nat_lt}
 use Rattle.rules.specs.Calls.{beyond_limits, covered_named, covered_without_load, days_of, end_not_allowed, entry_of, first_holding, first_without_load, negative_energy, no_such_date, not_enrolled, outside_book, places_full, soft_over_firm, start_no_mark, started_before}
 use Rattle.rules.specs.History.{History, Setting}
@@ -27,25 +28,33 @@ is_mark_at l point day =
 -- a point starts before a day, and no reading of it ends on that day or later
 abbrev pub is_after_marks_at : Ledger → ℕ → ℕ → Bool
 is_after_marks_at l point day =
-    started_before (enrolment_at l point) day && not (some_at l (λ r. (r.point == point) && nat_le day r.end))
+    started_before (enrolment_at l point) day
+    && not (some_at l (λ r. (r.point == point) && nat_le day r.end))
 
 -- a reading ends after its start, and at a mark or later than every mark
 abbrev pub is_end_allowed_at : Ledger → Reading → Bool
-is_end_allowed_at l r = nat_lt r.start r.end && (is_mark_at l r.point r.end || is_after_marks_at l r.point r.end)
+is_end_allowed_at l r =
+    nat_lt r.start r.end && (is_mark_at l r.point r.end || is_after_marks_at l r.point r.end)
 
 -- a reading is soft and would replace a firm one
 abbrev pub is_soft_over_firm_at : Ledger → Reading → Bool
-is_soft_over_firm_at l r = not (firm r.reading_type) && some_at l (λ old. replaces r old && firm old.reading_type)
+is_soft_over_firm_at l r =
+    not (firm r.reading_type) && some_at l (λ old. replaces r old && firm old.reading_type)
+
+-- how many places hold readings that stay beside a new one
+abbrev pub kept_count : Ledger → Reading → ℕ
+kept_count l r = count_by (holds_passing (λ old. not (replaces r old))) (vec_items l.places)
 
 -- the readings that stay beside a new one leave a place for it
 abbrev pub HasRoomFor : Ledger → Reading → Type 0
-HasRoomFor l r = count_by (holds_passing (λ old. not (replaces r old))) (vec_items l.places) < vec_len l.places
+HasRoomFor l r = kept_count l r < vec_len l.places
 
 -- the readings that stay beside a new one leave no place for it
 abbrev pub is_full_at : Ledger → Reading → Bool
-is_full_at l r = nat_le (vec_len l.places) (count_by (holds_passing (λ old. not (replaces r old))) (vec_items l.places))
+is_full_at l r = nat_le (vec_len l.places) (kept_count l r)
 
--- A reading is judged in two steps: its numbers, dates and point first, then what it covers and what is held.
+-- A reading is judged in two steps: its numbers, dates and point first, then what it covers and
+-- what is held.
 
 -- the refusals of a call for its numbers, its dates and its point
 abbrev pub numbers_refusal : Setting → History → Call → Option ℕ
@@ -58,8 +67,10 @@ numbers_refusal s h c =
     ∷ record { number = 7; holds = not_enrolled h c } ∷ [])
 
 abbrev pub IsNumbersJudgement : Setting → History → Call → Result Reading Refusal → Type 0
-IsNumbersJudgement s h c (Ok r) = (numbers_refusal s h c ≡ None) × (entry_of s c ≡ Some (ReadingTaken r))
-IsNumbersJudgement s h c (Err e) = (numbers_refusal s h c ≡ Some (number_of e)) × (day_named e ≡ None)
+IsNumbersJudgement s h c (Ok r) =
+    (numbers_refusal s h c ≡ None) × (entry_of s c ≡ Some (ReadingTaken r))
+IsNumbersJudgement s h c (Err e) =
+    (numbers_refusal s h c ≡ Some (number_of e)) × (day_named e ≡ None)
 
 -- the refusals of a reading for its span, and for the readings that are held
 unfoldable pub span_refusal : Setting → History → Reading → Option ℕ
@@ -82,7 +93,8 @@ IsSpanJudgement s h r (Err e) =
 
 -- a ledger judges the numbers of a delivery so
 abbrev pub JudgesNumbers : Ledger → Delivery → Result Reading Refusal → Type 0
-JudgesNumbers l delivery r = EachLedgerHistory l (λ s h. IsNumbersJudgement s h (EnterReading delivery) r)
+JudgesNumbers l delivery r =
+    EachLedgerHistory l (λ s h. IsNumbersJudgement s h (EnterReading delivery) r)
 
 -- a ledger judges the span of a reading so
 abbrev pub JudgesSpan : {X : Type 0} → Ledger → Reading → Result X Refusal → Type 0

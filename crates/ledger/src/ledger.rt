@@ -8,7 +8,7 @@ ghost use Rattle.rules.specs.History.{enrolment_of};
 ghost use Rattle.rules.specs.declared.call.Call.TheVariants.{AskDay, AskFigure, AskRetailer, Enrol, EnterDegreeDays, EnterGate, EnterInterval};
 ghost use Rattle.rules.specs.declared.entry.Entry.TheVariants.{DegreeDaysEntered, Enrolled, GateEntered, IntervalEntered};
 ghost use Rattle.terms.specs.Answers.{Answers};
-ghost use Rattle.ledger.specs.Limits.{gate_within, interval_within, opening_within};
+ghost use Rattle.ledger.specs.Limits.{all_intervals_within, gate_within, opening_within};
 ghost use Rattle.ledger.specs.Opening.{JudgesDay, has_day_number};
 
 use super::limits::{LARGEST_INTERVAL, METERS, retailer_within};
@@ -19,16 +19,16 @@ use estimators::{DAYS, GREATEST_COUNT, POINTS};
 use rules::{Enrolment, Entry, GateDay, Reading};
 use terms::Refusal;
 
-/// The two lists in whose memory a ledger is kept: the interval energies in MJ, 32 for each day of the book and then what
-/// lies beyond, and the places of readings.
+/// The two lists in whose memory a ledger is kept: the interval energies in MJ, 32 for each day of
+/// the book and then what lies beyond, and the places of readings.
 #[derive(Debug, Drop)]
 pub struct Lists {
     pub intervals: Vec<u64>,
     pub places: Vec<Option<Reading>>,
 }
 
-/// What a book has been told: the gate energies by day, the interval energies day by day and by meter, the enrolments by
-/// point, and the held readings, each in a place of its own.
+/// What a book has been told: the gate energies by day, the interval energies day by day and by
+/// meter, the enrolments by point, and the held readings, each in a place of its own.
 ///
 /// Tables of the greatest size and two lists of the caller's: no call of a ledger allocates.
 #[derive(Drop)]
@@ -41,9 +41,10 @@ pub struct Ledger {
     // The opening and all gate energies are within their limits.
     ghost opened: { T (opening_within opening) },
     ghost gates_within: { T (list_all gate_within gates) },
-    // The interval list has a place for each meter and day of the book, and what lies there is within its limit.
+    // The interval list has a place for each meter and day of the book, and what lies there is within
+    // its limit.
     ghost intervals_long: { opening.days * meters ≤ vec_len intervals },
-    ghost intervals_within: { T (list_all interval_within (take (opening.days * meters) intervals.items)) },
+    ghost intervals_within: { T (all_intervals_within opening.days intervals.items) },
 }
 
 impl Ledger {
@@ -53,7 +54,7 @@ impl Ledger {
     fn empty(opening: Opening, lists: Lists) -> Ledger
         requires opening { T (opening_within opening) }
         requires long { opening.days * meters ≤ vec_len lists.intervals }
-        requires within { T (list_all interval_within (take (opening.days * meters) lists.intervals.items)) }
+        requires within { T (all_intervals_within opening.days lists.intervals.items) }
         ensures opening { result.opening ≡ opening }
         ensures gates { result.gates ≡ replicate last_day Option.None }
         ensures intervals { result.intervals ≡ lists.intervals }
@@ -69,8 +70,8 @@ impl Ledger {
         }
     }
 
-    /// Opens the ledger of a book that has been told nothing, in the memory of two lists: the interval places of the
-    /// book's days become 0 and those beyond stay, and every reading place becomes free.
+    /// Opens the ledger of a book that has been told nothing, in the memory of two lists: the interval
+    /// places of the book's days become 0 and those beyond stay, and every reading place becomes free.
     ///
     /// Refused as [`judge_opening`] says, by 3, 4 or 15. Both lists then come back as they were.
     pub fn open(request: OpeningRequest, mut lists: Lists) -> Result<Ledger, Unopened<Lists>>
@@ -97,7 +98,8 @@ impl Ledger {
         self.opening
     }
 
-    /// The interval list in MJ: 32 energies for each day of the book, by meter, then what lies beyond.
+    /// The interval list in MJ: 32 energies for each day of the book, by meter, and then what lies
+    /// beyond.
     pub fn intervals(&self) -> &[u64]
         ensures { result.now ≡ vec_items (ledger_intervals self.now) }
     {
@@ -122,10 +124,12 @@ impl Ledger {
         }
     }
 
-    // The day of the book, from 0, that a day number is, or one of so many days after its last: 0 or 1.
+    // The day of the book, from 0, that has a day number; or the day after the book's last, where one
+    // day later is let through.
     pub(crate) fn day_of_number(&self, day_number: u32, later: u32) -> Result<u32, Refusal>
         requires { later ≤ 1 }
-        ensures { Answers result (has_day_number self.now.opening later day_number) (day_number - self.now.opening.first) 5 }
+        ensures { Answers result (has_day_number self.now.opening later day_number)
+            (day_number - self.now.opening.first) 5 }
     {
         let opening = self.opening;
         if !(opening.first..opening.first + opening.days + later).contains(&day_number) {
@@ -149,7 +153,8 @@ impl Ledger {
         (1..=self.opening.points).contains(&point)
     }
 
-    /// The enrolment of a point. A point that is not enrolled has none, nor has one that the book does not have.
+    /// The enrolment of a point. A point that is not enrolled has none, nor has one that the book does
+    /// not have.
     pub fn enrolment(&self, point: u32) -> Option<Enrolment>
         ensures value { result ≡ enrolment_at self.now point }
         ensures law { EachLedgerHistory self.now (λ s h. result ≡ enrolment_of h point) }
@@ -181,9 +186,10 @@ impl Ledger {
         net_system_load(gate.energy_in, gate.energy_out, adjusted).unwrap()
     }
 
-    /// The net system load of a day in MJ, at most 1,000,000,000: what enters the area less what leaves it and what its
-    /// interval meters burn with their share of unaccounted-for gas, by AEMO's methodology for net system load.
-    /// A day without a gate entry has none, nor has one that the book does not have.
+    /// The net system load of a day in MJ, at most 1,000,000,000, by AEMO's methodology for net system
+    /// load: what enters the area, less what leaves it and what its interval meters burn with their
+    /// share of unaccounted-for gas. A day without a gate entry has none, nor has one that the book
+    /// does not have.
     pub fn load(&self, day: u32) -> Option<u64>
         ensures bound { IfSome result (λ n. n ≤ largest_gate) }
         ensures law { EachLedgerHistory self.now (λ s h. result ≡ figures.load s h day) }
@@ -210,7 +216,8 @@ impl Ledger {
         start_date: u32,
     ) -> Result<Enrolment, Refusal>
         ensures fits { OnOk result (HasPoint self.now point) }
-        ensures law { JudgesEntry self.now (Enrol point retailer start_date) (λ e. Enrolled point e) result }
+        ensures law { JudgesEntry self.now (Enrol point retailer start_date)
+            (λ e. Enrolled point e) result }
     {
         if !self.has_point(point) || !retailer_within(retailer) {
             return Err(Refusal::BeyondLimits);
@@ -233,8 +240,8 @@ impl Ledger {
 
     /// Enrols a point with a retailer from a start date on. A point is enrolled once.
     ///
-    /// Refused, in this order: 3 `BeyondLimits` (the point or the retailer, 1 to 16), 4 `NoSuchDate`, 5 `OutsideBook`,
-    /// 8 `PointEnrolledAlready`.
+    /// Refused, in this order: 3 `BeyondLimits` (the point, or the retailer, 1 to 16), 4 `NoSuchDate`,
+    /// 5 `OutsideBook`, 8 `PointEnrolledAlready`.
     pub fn enrol(&mut self, point: u32, retailer: u32, start_date: u32) -> Result<Entry, Refusal>
         ensures { EntersInLedger (Enrol point retailer start_date) self.old result self.new }
     {
@@ -246,7 +253,8 @@ impl Ledger {
     // The day of a gate entry that can be made.
     fn judge_gate(&self, date: u32, gate: GateDay) -> Result<u32, Refusal>
         ensures fits { IfOk result (λ day. FitsGate self.now day gate) }
-        ensures law { JudgesEntry self.now (EnterGate date gate.energy_in gate.energy_out) (λ day. GateEntered day gate) result }
+        ensures law { JudgesEntry self.now (EnterGate date gate.energy_in gate.energy_out)
+            (λ day. GateEntered day gate) result }
     {
         if gate.energy_in > LARGEST_GATE || gate.energy_out > LARGEST_GATE {
             return Err(Refusal::BeyondLimits);
@@ -263,9 +271,11 @@ impl Ledger {
         self.gates[day as usize] = Some(gate);
     }
 
-    /// Enters the energies in MJ into and out of the area on a date. A later entry for a date replaces the earlier one.
+    /// Enters the energies in MJ into and out of the area on a date. A later entry for a date replaces
+    /// the earlier one.
     ///
-    /// Refused, in this order: 3 `BeyondLimits` (an energy above 1,000,000,000), 4 `NoSuchDate`, 5 `OutsideBook`.
+    /// Refused, in this order: 3 `BeyondLimits` (an energy above 1,000,000,000), 4 `NoSuchDate`,
+    /// 5 `OutsideBook`.
     pub fn enter_gate(
         &mut self,
         date: u32,
@@ -286,7 +296,8 @@ impl Ledger {
     // The day of an interval energy that can be entered.
     fn judge_interval(&self, date: u32, meter: u32, energy: u64) -> Result<u32, Refusal>
         ensures fits { IfOk result (λ day. FitsInterval self.now day meter energy) }
-        ensures law { JudgesEntry self.now (EnterInterval date meter energy) (λ day. IntervalEntered day meter energy) result }
+        ensures law { JudgesEntry self.now (EnterInterval date meter energy)
+            (λ day. IntervalEntered day meter energy) result }
     {
         if !(1..=METERS).contains(&meter) || energy > LARGEST_INTERVAL {
             return Err(Refusal::BeyondLimits);
@@ -304,10 +315,11 @@ impl Ledger {
         self.intervals[place as usize] = energy;
     }
 
-    /// Enters the energy in MJ of an interval meter on a date. A later entry for a meter and date replaces the earlier one.
+    /// Enters the energy in MJ of an interval meter on a date. A later entry for a meter and date
+    /// replaces the earlier one.
     ///
-    /// Refused, in this order: 3 `BeyondLimits` (the meter, 1 to 32, or an energy above 100,000,000), 4 `NoSuchDate`,
-    /// 5 `OutsideBook`.
+    /// Refused, in this order: 3 `BeyondLimits` (the meter, 1 to 32, or an energy above 100,000,000),
+    /// 4 `NoSuchDate`, 5 `OutsideBook`.
     pub fn enter_interval(&mut self, date: u32, meter: u32, energy: u64) -> Result<Entry, Refusal>
         ensures { EntersInLedger (EnterInterval date meter energy) self.old result self.new }
     {
@@ -316,13 +328,15 @@ impl Ledger {
         Ok(Entry::IntervalEntered { day, meter, energy })
     }
 
-    /// The day of a degree-day count, in hundredths of a degree day, that can be entered. The estimator keeps the count;
-    /// the ledger does not change.
+    /// The day of a degree-day count, in hundredths of a degree day, that can be entered. The estimator
+    /// keeps the count; the ledger does not change.
     ///
-    /// Refused, in this order: 3 `BeyondLimits` (a count above 20,000), 4 `NoSuchDate`, 5 `OutsideBook`.
+    /// Refused, in this order: 3 `BeyondLimits` (a count above 20,000), 4 `NoSuchDate`,
+    /// 5 `OutsideBook`.
     pub fn judge_degree_days(&self, date: u32, count: u32) -> Result<u32, Refusal>
         ensures fits { IfOk result (HasDay self.now) }
-        ensures law { JudgesEntry self.now (EnterDegreeDays date count) (λ day. DegreeDaysEntered day count) result }
+        ensures law { JudgesEntry self.now (EnterDegreeDays date count)
+            (λ day. DegreeDaysEntered day count) result }
     {
         if count > GREATEST_COUNT {
             return Err(Refusal::BeyondLimits);
@@ -332,7 +346,8 @@ impl Ledger {
 
     /// The day for which the figure of a point is asked.
     ///
-    /// Refused, in this order: 3 `BeyondLimits` (the point), 4 `NoSuchDate`, 5 `OutsideBook`, 7 `PointNotEnrolled`.
+    /// Refused, in this order: 3 `BeyondLimits` (the point), 4 `NoSuchDate`, 5 `OutsideBook`,
+    /// 7 `PointNotEnrolled`.
     pub fn judge_figure(&self, point: u32, date: u32) -> Result<u32, Refusal>
         ensures { JudgesQuestion self.now (AskFigure point date) date result }
     {
@@ -348,7 +363,8 @@ impl Ledger {
 
     /// The day that is asked for. It has a load.
     ///
-    /// Refused, in this order: 4 `NoSuchDate`, 5 `OutsideBook`, 14 `AskedDayWithoutLoad`, with the date.
+    /// Refused, in this order: 4 `NoSuchDate`, 5 `OutsideBook`, 14 `AskedDayWithoutLoad`, with the
+    /// date.
     pub fn judge_day(&self, date: u32) -> Result<u32, Refusal>
         ensures { JudgesQuestion self.now (AskDay date) date result }
     {
@@ -361,7 +377,8 @@ impl Ledger {
 
     /// The day for which the sum of a retailer's points is asked.
     ///
-    /// Refused, in this order: 3 `BeyondLimits` (the retailer, 1 to 16), 4 `NoSuchDate`, 5 `OutsideBook`.
+    /// Refused, in this order: 3 `BeyondLimits` (the retailer, 1 to 16), 4 `NoSuchDate`,
+    /// 5 `OutsideBook`.
     pub fn judge_retailer(&self, retailer: u32, date: u32) -> Result<u32, Refusal>
         ensures { JudgesQuestion self.now (AskRetailer retailer date) date result }
     {

@@ -8,8 +8,8 @@ use estimators::{day_within, point_within};
 use terms::Refusal;
 use thiserror::Error;
 
-/// How a book was opened: the day number of its first day (from 1 January 2001, 0), its days, its points, and its share
-/// of unaccounted-for gas in ten-thousandths.
+/// How a book was opened: the day number of its first day (0 is 1 January 2001), its days, its
+/// points, and its share of unaccounted-for gas in ten-thousandths.
 #[derive(Clone, Copy, Debug, PartialEq, Eq)]
 pub struct Opening {
     pub first: u32,
@@ -18,8 +18,9 @@ pub struct Opening {
     pub unaccounted: u64,
 }
 
-/// What a book is to be opened with: the date of its first day (eight digits, as 20240701), its days (1 to 400), its
-/// points (1 to 256), and its share of unaccounted-for gas in ten-thousandths (0 to 2,000).
+/// What a book is to be opened with: the date of its first day (eight digits, as 20240701), its days
+/// (1 to 400), its points (1 to 256), and its share of unaccounted-for gas in ten-thousandths (0 to
+/// 2,000).
 #[derive(Clone, Copy, Debug, PartialEq, Eq)]
 pub struct OpeningRequest {
     pub first_date: u32,
@@ -38,8 +39,9 @@ pub struct Unopened<L> {
 
 /// Judges an opening, of which the lists have so many places.
 ///
-/// Refused, in this order: 3 `BeyondLimits` (days, points or share, or a last day later than 30 December 2099),
-/// 4 `NoSuchDate`, 15 `ListTooShort` (fewer than 32 interval places a day, or no reading place).
+/// Refused, in this order: 3 `BeyondLimits` (days, points or share, or a last day later than
+/// 30 December 2099), 4 `NoSuchDate`, 15 `ListTooShort` (fewer than 32 interval places a day, or no
+/// reading place).
 pub fn judge_opening(
     request: OpeningRequest,
     interval_places: usize,

@@ -67,10 +67,12 @@ impl Ledger {
             && !self.holds_end_from(point, day)
     }
 
-    // Whether the rules allow the end of a reading: it ends after its start, and at a mark or later than every mark.
+    // Whether the rules allow the end of a reading: it ends after its start, and at a mark or later
+    // than every mark.
     fn may_end(&self, reading: &Reading) -> bool
         ensures value { result ≡ is_end_allowed_at self.now reading.now }
-        ensures law { EachLedgerHistory self.now (λ s h. end_not_allowed h reading.now ≡ not result) }
+        ensures law { EachLedgerHistory self.now
+            (λ s h. end_not_allowed h reading.now ≡ not result) }
     {
         reading.start < reading.end
             && (self.is_mark(reading.point, reading.end)
@@ -97,7 +99,8 @@ impl Ledger {
 
     // Whether a firm reading is held that a new one would replace.
     fn holds_firm_under(&self, reading: &Reading) -> bool
-        ensures { result ≡ some_at self.now (λ old. held.replaces reading.now old && firm old.reading_type) }
+        ensures { result ≡ some_at self.now
+            (λ old. held.replaces reading.now old && firm old.reading_type) }
     {
         self.holds_some(|old| replaces(reading, old) && old.reading_type.is_firm())
     }
@@ -117,7 +120,8 @@ impl Ledger {
         all_passing(self.places.as_slice(), |old| !replaces(reading, old))
     }
 
-    // Judges the numbers of a delivered reading, its dates and its point, and puts days in the place of dates.
+    // Judges the numbers of a delivered reading, its dates and its point, and puts days in the place
+    // of dates.
     fn judge_numbers(&self, delivery: Delivery) -> Result<Reading, Refusal>
         ensures fits { IfOk result (λ reading. reading.end ≤ self.now.opening.days) }
         ensures law { JudgesNumbers self.now delivery result }
@@ -145,7 +149,8 @@ impl Ledger {
         })
     }
 
-    // Judges what a reading covers: its start, its end, the loads of its days, and the readings that are held.
+    // Judges what a reading covers: its start, its end, the loads of its days, and the readings that
+    // are held.
     fn judge_span(&self, reading: &Reading) -> Result<(), Refusal>
         requires { reading.now.end ≤ self.now.opening.days }
         ensures fits { OnOk result (HasRoomFor self.now reading.now) }
@@ -190,12 +195,14 @@ impl Ledger {
         take_place(places, reading).unwrap();
     }
 
-    /// Takes a reading of a point, in MJ, from a start date to the day before an end date. It replaces the readings of the
-    /// point of which it covers a day.
+    /// Takes a reading of a point, in MJ, from a start date to the day before an end date. It replaces
+    /// the readings of the point of which it covers a day.
     ///
-    /// Refused, in this order: 3 `BeyondLimits` (the point, or an energy above 10,000,000), 4 `NoSuchDate`, 5 `OutsideBook`
-    /// (the end may be the day after the book's last), 6 `NegativeEnergy`, 7 `PointNotEnrolled`, 9 `StartIsNoMark`,
-    /// 10 `EndNotAllowed`, 11 `CoveredDayWithoutLoad`, with the date of the first, 12 `SoftOverFirm`, 13 `ReadingPlacesFull`.
+    /// Refused, in this order: 3 `BeyondLimits` (the point, or an energy above 10,000,000),
+    /// 4 `NoSuchDate`, 5 `OutsideBook` (the end may be the day after the book's last),
+    /// 6 `NegativeEnergy`, 7 `PointNotEnrolled`, 9 `StartIsNoMark`, 10 `EndNotAllowed`,
+    /// 11 `CoveredDayWithoutLoad`, with the date of the first, 12 `SoftOverFirm`,
+    /// 13 `ReadingPlacesFull`.
     pub fn enter_reading(&mut self, delivery: Delivery) -> Result<Entry, Refusal>
         ensures { EntersInLedger (EnterReading delivery) self.old result self.new }
     {
