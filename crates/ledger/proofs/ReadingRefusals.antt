@@ -60,9 +60,9 @@ module _ {s : Setting} {h : History} {l : Ledger} (f : IsLedgerOf s h l) (r : Re
     refl,
   )
 
-  pub stands : is_mark_at l r.point r.start ≡ true → is_end_allowed_at l r ≡ true → None ≡ first_without_load s h (days_of r) → is_soft_over_firm_at l r ≡ false → is_full_at l r ≡ false → span_refusal s h r ≡ None
+  pub span_accepted : is_mark_at l r.point r.start ≡ true → is_end_allowed_at l r ≡ true → None ≡ first_without_load s h (days_of r) → is_soft_over_firm_at l r ≡ false → is_full_at l r ≡ false → span_refusal s h r ≡ None
   unfolding span_refusal
-  stands start end loads soft full =
+  span_accepted start end loads soft full =
       cond-false _ _ _ (marked start) ∙ cond-false _ _ _ (allowed end) ∙ cond-false _ _ _ (loaded loads) ∙ cond-false _ _ _ (sym (soft_followed f r) ∙ soft)
       ∙ cond-false _ _ _ (sym (full_followed f r) ∙ full)
 
@@ -146,5 +146,5 @@ module _ (s : Setting) (h : History) (delivery : Delivery) where
   span_refused r e numbers judged =
       (passed r numbers ∙ judged.0, judged.1 ∙ ap (λ x. span_named s h x (number_of e)) (sym (same_reading r numbers.1)))
 
-  pub reading_stands : (r : Reading) → IsNumbersJudgement s h call (Ok r) → span_refusal s h r ≡ None → IsEntryJudgement s h call ReadingTaken (Ok r)
-  reading_stands r numbers judged = (passed r numbers ∙ judged, numbers.1)
+  pub reading_accepted : (r : Reading) → IsNumbersJudgement s h call (Ok r) → span_refusal s h r ≡ None → IsEntryJudgement s h call ReadingTaken (Ok r)
+  reading_accepted r numbers judged = (passed r numbers ∙ judged, numbers.1)

@@ -1,5 +1,5 @@
 use Rattle.std.proofs.lemmas.Result.{err_from_is_err_and}
-use Rattle.ledger.proofs.ReadingRefusals.{numbers_refused, reading_stands, span_refused}
+use Rattle.ledger.proofs.ReadingRefusals.{numbers_refused, reading_accepted, span_refused}
 use Rattle.ledger.proofs.ledger.Ledger.judge_reading.Goals as goal
 
 pub returns-in_err-reading : goal.returns-in_err-reading
@@ -18,5 +18,5 @@ returns-in_err-judge_span c =
 pub returns : goal.returns
 returns c = record {
   fits = c.in_ok-judge_span.ensures.fits;
-  law = λ s h f. reading_stands s h c.args.delivery c.in_ok-reading.reading (c.in_ok-reading.ensures.law s h f) (c.in_ok-judge_span.ensures.law s h f);
+  law = λ s h f. reading_accepted s h c.args.delivery c.in_ok-reading.reading (c.in_ok-reading.ensures.law s h f) (c.in_ok-judge_span.ensures.law s h f);
 }

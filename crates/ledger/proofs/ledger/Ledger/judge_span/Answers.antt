@@ -1,6 +1,6 @@
 use Rattle.std.proofs.Common.{sym, ◌∙◌}
 use Rattle.std.proofs.lemmas.Bool.{leb-false}
-use Rattle.ledger.proofs.ReadingRefusals.{no_day_load, no_end, no_place, no_soft, no_start, stands}
+use Rattle.ledger.proofs.ReadingRefusals.{no_day_load, no_end, no_place, no_soft, no_start, span_accepted}
 use Rattle.ledger.proofs.ledger.Ledger.judge_span.Goals as goal
 
 pub returns-then-not-is_mark : goal.returns-then-not-is_mark
@@ -24,5 +24,5 @@ returns-then-is_full_beside c = record { fits = tt; law = λ s h f. no_place f c
 pub returns : goal.returns
 returns c = record {
   fits = leb-false _ _ (sym c.is_full_beside.ensures ∙ c.if-is_full_beside.false);
-  law = λ s h f. stands f c.args.reading.now (sym c.is_mark.ensures.value ∙ c.if-not-is_mark.false) (sym c.may_end.ensures.value ∙ c.if-not-may_end.false) (c.in_default.ensures.law s h f) (sym c.is_soft_over_firm.ensures.value ∙ c.if-is_soft_over_firm.false) (sym c.is_full_beside.ensures ∙ c.if-is_full_beside.false);
+  law = λ s h f. span_accepted f c.args.reading.now (sym c.is_mark.ensures.value ∙ c.if-not-is_mark.false) (sym c.may_end.ensures.value ∙ c.if-not-may_end.false) (c.in_default.ensures.law s h f) (sym c.is_soft_over_firm.ensures.value ∙ c.if-is_soft_over_firm.false) (sym c.is_full_beside.ensures ∙ c.if-is_full_beside.false);
 }
