@@ -29,7 +29,8 @@ pub record Accepted (q : OpeningRequest) (interval_places : ℕ) : Type 0 where
   pub within : T (opening_within (opening_of q))
   pub long : q.days * 32 ≤ interval_places
 
-pub accepted : (q : OpeningRequest) (interval_places reading_places : ℕ) → opening_refusal q interval_places reading_places ≡ None → Accepted q interval_places
+pub accepted : (q : OpeningRequest) (interval_places reading_places : ℕ)
+    → opening_refusal q interval_places reading_places ≡ None → Accepted q interval_places
 accepted q interval_places reading_places e =
     let three = cond_none (is_opening_beyond_limits q) 3 _ e in
     let four = cond_none (not (is_date q.first_date)) 4 _ three.1 in
@@ -99,7 +100,11 @@ in_row days d m inside =
     omega arith
 
 -- a ledger of empty tables follows the empty history
-pub empty_followed : (q : OpeningRequest) (l : Ledger) (xs : List ℕ) (n : ℕ) (m : Meaning) (w : ℕ → Meaning) → l.opening ≡ opening_of q → l.gates ≡ replicate 400 None → q.days * 32 ≤ length xs → vec_items l.intervals ≡ map zero_of (take (q.days * 32) xs) ++ drop (q.days * 32) xs → l.enrolments ≡ replicate 256 None → vec_items l.places ≡ replicate n None → vec_len l.places ≡ n → IsLedgerOf (setting_of q n m w) [] l
+pub empty_followed : (q : OpeningRequest) (l : Ledger) (xs : List ℕ) (n : ℕ) (m : Meaning) (w : ℕ → Meaning)
+    → l.opening ≡ opening_of q → l.gates ≡ replicate 400 None → q.days * 32 ≤ length xs
+    → vec_items l.intervals ≡ map zero_of (take (q.days * 32) xs) ++ drop (q.days * 32) xs
+    → l.enrolments ≡ replicate 256 None → vec_items l.places ≡ replicate n None
+    → vec_len l.places ≡ n → IsLedgerOf (setting_of q n m w) [] l
 empty_followed q l xs n m w opening gates long intervals enrolments places room = record {
   first = ap (λ o. o.first) opening;
   days = ap (λ o. o.days) opening;
@@ -119,7 +124,8 @@ zeros [] = refl
 zeros (x ∷ xs) = ap (λ rest. 0 ∷ rest) (zeros xs)
 
 -- a list whose first n places are cleared, or all where it has fewer
-pub cleared_front : (n i : ℕ) (xs : List ℕ) → i ≡ min n (length xs) → replicate (length (take i xs)) 0 ++ drop i xs ≡ map zero_of (take n xs) ++ drop n xs
+pub cleared_front : (n i : ℕ) (xs : List ℕ) → i ≡ min n (length xs)
+    → replicate (length (take i xs)) 0 ++ drop i xs ≡ map zero_of (take n xs) ++ drop n xs
 cleared_front n i xs is =
     ap (λ front. front ++ drop i xs) (sym (zeros (take i xs)))
     ∙ ⊎_elim
@@ -136,7 +142,8 @@ cleared_front n i xs is =
     same_rest all short = drop_all i xs (omega arith) ∙ sym (drop_all n xs (omega arith))
 
 -- a list written over from its front to its end
-pub written_over : {X : Type 0} (n : ℕ) (xs ys : List X) → length xs ≡ n → length ys ≡ n → take n (xs ++ drop (length xs) ys) ≡ xs
+pub written_over : {X : Type 0} (n : ℕ) (xs ys : List X) → length xs ≡ n → length ys ≡ n
+    → take n (xs ++ drop (length xs) ys) ≡ xs
 written_over n xs ys long same = ap (λ rest. take n (xs ++ rest)) (drop_all (length xs) ys (omega arith)) ∙ ap (take n) (append-nil xs) ∙ take_all n xs (omega arith)
 
 -- what is none alone

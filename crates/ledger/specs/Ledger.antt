@@ -92,8 +92,7 @@ pub record IsLedgerOf (s : Setting) (h : History) (l : Ledger) : Type 0 where
   pub readings : (test : Reading → Bool)
       → count_by (holds_passing test) (vec_items l.places) ≡ count_by test (held_of h)
 
--- P holds of every setting and history that the ledger is of.
--- A history kept as a ghost field of the ledger would promise less: this says it of every one.
+-- P holds of every setting and history that the ledger is of
 abbrev pub EachLedgerHistory : Ledger → (Setting → History → Type 0) → Type 0
 EachLedgerHistory l P = (s : Setting) (h : History) → IsLedgerOf s h l → P s h
 

@@ -19,11 +19,13 @@ use estimators::{DAYS, GREATEST_COUNT, POINTS};
 use rules::{Enrolment, Entry, GateDay, Reading};
 use terms::Refusal;
 
-/// The two lists in whose memory a ledger is kept: the interval energies in MJ, 32 for each day of
-/// the book and then what lies beyond, and the places of readings.
+/// The two lists in whose memory a ledger is kept. The first has 32 places for each day of the book,
+/// and may have more; the second has as many places as readings can be held.
 #[derive(Debug, Drop)]
 pub struct Lists {
+    /// The energies of the interval meters in MJ, day by day and by meter.
     pub intervals: Vec<u64>,
+    /// The places of readings, each free or with one reading.
     pub places: Vec<Option<Reading>>,
 }
 
@@ -124,8 +126,8 @@ impl Ledger {
         }
     }
 
-    // The day of the book, from 0, that has a day number; or the day after the book's last, where one
-    // day later is let through.
+    // The day of the book, from 0, that a day number is. So many days after the book's last count as
+    // days of it too: 0 or 1.
     pub(crate) fn day_of_number(&self, day_number: u32, later: u32) -> Result<u32, Refusal>
         requires { later ≤ 1 }
         ensures { Answers result (has_day_number self.now.opening later day_number)

@@ -8,32 +8,39 @@ use estimators::{day_within, point_within};
 use terms::Refusal;
 use thiserror::Error;
 
-/// How a book was opened: the day number of its first day (0 is 1 January 2001), its days, its
-/// points, and its share of unaccounted-for gas in ten-thousandths.
+/// How a book was opened.
 #[derive(Clone, Copy, Debug, PartialEq, Eq)]
 pub struct Opening {
+    /// The day number of the book's first day: 0 is 1 January 2001.
     pub first: u32,
+    /// The number of its days, at most 400.
     pub days: u32,
+    /// The number of its points, at most 256. They are numbered from 1.
     pub points: u32,
+    /// The share of unaccounted-for gas in ten-thousandths, at most 2,000.
     pub unaccounted: u64,
 }
 
-/// What a book is to be opened with: the date of its first day (eight digits, as 20240701), its days
-/// (1 to 400), its points (1 to 256), and its share of unaccounted-for gas in ten-thousandths (0 to
-/// 2,000).
+/// What a book is to be opened with.
 #[derive(Clone, Copy, Debug, PartialEq, Eq)]
 pub struct OpeningRequest {
+    /// The date of the book's first day in eight digits, as 20240701.
     pub first_date: u32,
+    /// The number of its days, 1 to 400.
     pub days: u32,
+    /// The number of its points, 1 to 256.
     pub points: u32,
+    /// The share of unaccounted-for gas in ten-thousandths, 0 to 2,000.
     pub unaccounted: u64,
 }
 
-/// Why a ledger, or what is kept over one, was not opened, and its lists as they were.
+/// What comes back where a ledger, or what is kept over one, is not opened.
 #[derive(Debug, Drop, Error)]
 #[error("{refusal}")]
 pub struct Unopened<L> {
+    /// Why it was refused.
     pub refusal: Refusal,
+    /// The lists that it was to be kept in, as they were.
     pub lists: L,
 }
 
