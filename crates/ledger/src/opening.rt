@@ -4,7 +4,7 @@ ghost use Rattle.ledger.specs.Opening.{JudgesOpening};
 use super::limits::METERS;
 use allocation::LARGEST_UNACCOUNTED;
 use calendar::{DAYS_IN_ALL, day_number_of};
-use estimators::{day_within, point_within};
+use estimators::{DAYS, POINTS};
 use terms::Refusal;
 use thiserror::Error;
 
@@ -62,7 +62,10 @@ pub fn judge_opening(
         points,
         unaccounted,
     } = request;
-    if !day_within(days) || !point_within(points) || unaccounted > LARGEST_UNACCOUNTED {
+    if !(1..=DAYS).contains(&days)
+        || !(1..=POINTS).contains(&points)
+        || unaccounted > LARGEST_UNACCOUNTED
+    {
         return Err(Refusal::BeyondLimits);
     }
     let first = day_number_of(first_date)?;

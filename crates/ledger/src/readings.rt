@@ -2,7 +2,7 @@ ghost use Rattle.std.specs.Prelude.{◌≡◌, ◌+◌, ◌-◌, ◌≤◌, Bool
 ghost use Rattle.std.specs.Fn.{FnReturnsAt};
 ghost use Rattle.std.specs.List.{range_with_len};
 ghost use Rattle.std.specs.Option.{option_map};
-ghost use Rattle.calendar.specs.Digits.{date_numbered};
+ghost use Rattle.calendar.specs.Digits as dates;
 ghost use Rattle.rules.specs.Calls.{after_all_marks, end_not_allowed, first_without_load, soft_over_firm};
 ghost use Rattle.rules.specs.Readings as held;
 ghost use Rattle.rules.specs.declared.call.Call.TheVariants.{EnterReading};
@@ -92,7 +92,7 @@ impl Ledger {
     // The date of a day of the book.
     fn date_of_day(&self, day: u32) -> u32
         requires { HasDay self.now day }
-        ensures { result ≡ date_numbered (self.now.opening.first + day) }
+        ensures { result ≡ dates.date_numbered (self.now.opening.first + day) }
     {
         date_of_day_number(self.opening.first + day).unwrap()
     }

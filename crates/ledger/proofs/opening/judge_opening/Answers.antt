@@ -1,5 +1,4 @@
-use Rattle.std.proofs.Common.{◌≡◌, leb, sym, ◌∙◌, arith}
-use Rattle.std.proofs.lemmas.Bool.{and_parts, leb-true}
+use Rattle.std.proofs.Common.{◌≡◌, ◌≤◌, arith, rules, tests}
 use mir.Facts.{Fits-below}
 use Rattle.calendar.proofs.Order.{day_number_below}
 use Rattle.calendar.specs.Digits.{day_number_of, is_date}
@@ -8,6 +7,6 @@ use Rattle.ledger.proofs.opening.judge_opening.Goals as goal
 
 pub overflow_add-first : goal.overflow_add-first
 overflow_add-first c =
-    let few = leb-true c.args.request.days 400 (and_parts (leb 1 c.args.request.days) (leb c.args.request.days 400) (sym c.day_within.ensures ∙ c.if-not-day_within.false)).1 in
+    let few : c.args.request.days ≤ 400 = search (rules, tests) in
     let real = accepted_since c.in_ok-first.first (is_date c.args.request.first_date) (λ n. n ≡ day_number_of c.args.request.first_date) 4 c.in_ok-first.ensures in
     Fits-below {n = 40000} tt (omega (arith, few, day_number_below c.args.request.first_date (rw real.0 tt), real.1))
