@@ -1,8 +1,8 @@
-pub mod Held
-pub mod Tables
+pub mod Days
 pub mod Entries
-pub mod Judged
 pub mod Loads
-pub mod Opened
-pub mod Asked
-pub mod Beyond
+pub mod Marks
+pub mod Openings
+pub mod PlaceCounts
+pub mod ReadingRefusals
+pub mod Tables

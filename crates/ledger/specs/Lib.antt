@@ -1,9 +1,5 @@
-pub mod Places
-pub mod Beyond
-pub mod Changes
-pub mod Days
-pub mod Judging
+pub mod Ledger
 pub mod Limits
-pub mod Marks
-pub mod Opened
-pub mod Told
+pub mod Opening
+pub mod Places
+pub mod Readings

@@ -1,31 +1,17 @@
-// The places of held readings: testing, freeing and taking them.
-// What a book has been told: gates, interval energies, enrolments and held readings.
-// Promises speak of every setting and history that a ledger follows: one that it kept itself would promise less.
+//! The ledger of a book: what the book has been told, and the judge of every entry and question.
+//!
+//! A [`Ledger`] keeps the gate energies of the book's days, the energies of its interval meters, the
+//! enrolments of its points and the readings that the book holds. Of every setting and history that
+//! it is the ledger of, it is proved to judge each call as the rules do, with the refusal that comes
+//! first and the day that it names, and to be after an entry the ledger of what was accepted. A
+//! refused entry leaves it as it was. No call of an open ledger allocates.
 #![tactic(auto)]
 
-mod access;
-mod asks;
-mod covered;
-mod dates;
-mod day_loads;
-mod degree_days;
-mod enrolments;
-mod gates;
-mod holding;
-mod intervals;
+mod ledger;
 mod limits;
-mod lists;
-mod marks;
-mod open;
 mod opening;
-mod replacing;
-mod spans;
-mod state;
-mod testing;
+mod places;
+mod readings;
 
-pub use lists::Lists;
-pub use open::{Unopened, clear_front, judge_opening};
-pub use opening::{Opening, OpeningRequest};
-pub use replacing::{free_replaced, replaces, take_place};
-pub use state::Ledger;
-pub use testing::{all_passing, some_passing};
+pub use ledger::{Ledger, Lists};
+pub use opening::{Opening, OpeningRequest, Unopened, clear_front, judge_opening};

@@ -1,4 +1,4 @@
-// Tests of the ledger: it is proved in its own crate, and only run here.
+//! Tests of the ledger: it is proved in its own crate, and only run here.
 #![tactic(auto)]
 
 #[cfg(test)]

@@ -1,8 +1,0 @@
-use Rattle.std.proofs.Common.{◌++◌, drop, ap, ◌∙◌}
-use Rattle.ledger.proofs.Opened.{cleared_front}
-use Rattle.ledger.proofs.open.clear_front.Goals as goal
-
-pub returns : goal.returns
-returns c =
-    ap (λ front. front ++ drop c.min-n.result c.args.list.now) (c.fill.ensures.after (λ y same. same))
-    ∙ cleared_front c.args.n c.min-n.result c.args.list.now c.min-n.ensures

@@ -1,8 +1,0 @@
-use Rattle.std.proofs.Common.{◌≡◌, ◌∙◌, rules}
-use Rattle.ledger.specs.Marks.{soft_over_firm_at}
-use Rattle.ledger.proofs.Asked.{soft_followed}
-use Rattle.ledger.proofs.state.Ledger.is_soft_over_firm.Goals as goal
-
-pub returns-then-not-is_firm-clause-law : goal.returns-then-not-is_firm-clause-law
-returns-then-not-is_firm-clause-law c = λ s h f.
-    let told : c.holds_firm_under.result ≡ soft_over_firm_at c.args.self.now c.args.reading.now = search rules in told ∙ soft_followed f c.args.reading.now

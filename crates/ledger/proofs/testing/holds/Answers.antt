@@ -1,7 +1,0 @@
-use Rattle.std.proofs.Common.{rules, tests}
-use Rattle.std.specs.Fn.{FnReturnsAt}
-use Rattle.ledger.proofs.Held.{placed_as}
-use Rattle.ledger.proofs.testing.holds.Goals as goal
-
-pub returns : goal.returns
-returns g c = λ passes answers. placed_as passes c.args.place.now c.is_some_and.result (FnReturnsAt g.F.Fn c.args.test.now) (search (rules, tests)) answers
