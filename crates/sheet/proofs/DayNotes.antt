@@ -1,4 +1,4 @@
--- What is noted of a day: that it holds once the day is settled, that it tells when the day is, and when it stands. Assumes nothing.
+-- What is noted of a day: that it is so once the day is settled, when it lets the day stand, and what leaves it.
 use Rattle.std.proofs.Common.{◌≡◌, ℕ, zero, suc, ◌+◌, ◌-◌, ◌^◌, ◌<◌, ◌≤◌, min, Bool, true, false, cond, not, ◌&&◌, eqb, ltb, ◌∷◌, map, get_or, length, is_some, Some, None, sum, vec_items, vec_len, Option, unwrap_or, sym, refl, ap, ◌∙◌, subst, ⊎_elim, arith}
 use Rattle.std.proofs.lemmas.Bool.{and_from, and_left, and_right, both_ways, cases_Bool, cases_lt, cond-false, cond-true, le-ltb, lt-ltb, ltb-false, ne_eqb}
 use Rattle.std.proofs.lemmas.List.FromFn.{get_or-map-range_with_len}
@@ -165,7 +165,7 @@ left_settled s h b d n total many loaded total_is over supplied_shown nothing_sh
 -- Entries that leave the estimates of a day.
 
 -- each point that no reading covers under the longer history was so before, and has the same estimate
-pub record EstimatesKept (s : Setting) (h new : History) (d : ℕ) : Type 0 where
+pub record KeepsEstimates (s : Setting) (h new : History) (d : ℕ) : Type 0 where
   pub uncovered : (p : ℕ) → is_some (covering new p d) ≡ false → is_some (covering h p d) ≡ false
   pub same : (p : ℕ) → is_some (covering new p d) ≡ false → estimate_counted s new p d ≡ estimate_counted s h p d
 
@@ -180,7 +180,7 @@ sum_lower f g lower a (suc n) =
       sum_by-cons (λ y. y) (g a) (map g (range_with_len (a + 1) n)),
     )
 
-module _ {s : Setting} {h new : History} {d : ℕ} (kept : EstimatesKept s h new d) where
+module _ {s : Setting} {h new : History} {d : ℕ} (kept : KeepsEstimates s h new d) where
   lower : (p : ℕ) → estimate_counted s new p d ≤ estimate_counted s h p d
   lower p =
       ⊎_elim
@@ -204,14 +204,14 @@ module _ {s : Setting} {h new : History} {d : ℕ} (kept : EstimatesKept s h new
     noted_kept same noted = subst (IsTrueNote s new b d) (sym same) (note_kept (get_or old.notes d NothingKnown) noted)
 
 -- a changed load leaves them
-pub load_kept : {s : Setting} {h new : History} {g : ℕ} → LoadMoved s h new g → (d : ℕ) → EstimatesKept s h new d
+pub load_kept : {s : Setting} {h new : History} {g : ℕ} → LoadMoved s h new g → (d : ℕ) → KeepsEstimates s h new d
 load_kept {s} {h} {new} moved d = record {
   uncovered = λ p none. sym (ap is_some (moved.coverings p d)) ∙ none;
   same = λ p none i. cond (begun (moved.enrolments p i) d && not (is_some (moved.coverings p d i))) (unwrap_or (under_count s (moved.counts d i) p d) 0) 0;
 }
 
 -- and so does a reading, but for the points that it covers
-pub reading_kept : (s : Setting) (h : History) (r : Reading) (d : ℕ) → EstimatesKept s h (ReadingTaken r ∷ h) d
+pub reading_kept : (s : Setting) (h : History) (r : Reading) (d : ℕ) → KeepsEstimates s h (ReadingTaken r ∷ h) d
 reading_kept s h r d = record {
   uncovered = before;
   same = λ p none. ap (λ t. cond (active h p d && not t) (unwrap_or (estimate s h p d) 0) 0) (none ∙ sym (before p none));
@@ -223,7 +223,7 @@ reading_kept s h r d = record {
         (λ (free : is_some (covering h p d) ≡ false). free) (cases_Bool (is_some (covering h p d)))
 
 -- a degree-day count leaves those of other days
-pub count_kept : (s : Setting) (h : History) (g count d : ℕ) → (d ≡ g → ⊥) → EstimatesKept s h (DegreeDaysEntered g count ∷ h) d
+pub count_kept : (s : Setting) (h : History) (g count d : ℕ) → (d ≡ g → ⊥) → KeepsEstimates s h (DegreeDaysEntered g count ∷ h) d
 count_kept s h g count d other = record {
   uncovered = λ p none. none;
   same = λ p none. ap (λ o. cond (estimated h p d) (unwrap_or (under_count s o p d) 0) 0)
@@ -271,7 +271,7 @@ note_outside stand d outside = ⊎_elim (λ less. stand.before d less) (λ past.
 
 -- a day outside those that change stays ready, or settled
 module _ {from to : ℕ} {old new : Sheet} (only : ChangesOnlyDays from to old new) (notes : ChangesOnlyNotes from to old new) (s : Setting) (h : History) (d : ℕ) (many : old.points ≡ s.points) (outside : Outside from to d) where
-  same_history : EstimatesKept s h h d
+  same_history : KeepsEstimates s h h d
   same_history = record { uncovered = λ p none. none; same = λ p none. refl }
 
   noted_stands : HasTrueNote s h old d → HasTrueNote s h new d

@@ -1,4 +1,4 @@
--- A sheet that opens shows nothing. Assumes nothing.
+-- A sheet that opens shows nothing.
 use Rattle.std.proofs.Common.{◌≡◌, ℕ, zero, suc, ◌+◌, ◌-◌, ◌*◌, ◌≤◌, List, [], ◌++◌, map, length, get_or, take, drop, replicate, None, vec_items, sym, refl, ap, ◌∙◌, subst}
 use Rattle.rules.proofs.Lawfully.{figure_before}
 use Rattle.rules.specs.History.{History, Setting}
@@ -18,11 +18,11 @@ read_of_one x (suc n) (suc k) = read_of_one x n k
 pub nothing_noted : (s : Setting) (h : History) (b : Sheet) (d : ℕ) → get_or b.notes d NothingKnown ≡ NothingKnown → HasTrueNote s h b d
 nothing_noted s h b d none = subst (IsTrueNote s h b d) (sym none) tt
 
--- a sheet of cleared figures stands as the empty history leaves it
-pub stands_open : (s : Setting) (rest : List ℕ) (b : Sheet) (xs : List ℕ) → b.days ≡ s.days → b.points ≡ s.points → s.days * s.points ≤ length xs
+-- a sheet of cleared figures is that of the empty history
+pub opened_is_sheet : (s : Setting) (rest : List ℕ) (b : Sheet) (xs : List ℕ) → b.days ≡ s.days → b.points ≡ s.points → s.days * s.points ≤ length xs
     → vec_items b.figures ≡ map zero_of (take (s.days * s.points) xs) ++ drop (s.days * s.points) xs
     → b.loads ≡ replicate 400 None → b.notes ≡ replicate 400 NothingKnown → drop (s.days * s.points) xs ≡ rest → IsSheetOf s rest [] b
-stands_open s rest b xs days points long cleared loads notes beyond = record {
+opened_is_sheet s rest b xs days points long cleared loads notes beyond = record {
   days = days;
   points = points;
   loads = λ d within. ap (λ l. get_or l d None) loads ∙ read_of_one None 400 d;

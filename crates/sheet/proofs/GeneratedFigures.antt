@@ -57,13 +57,13 @@ module _ {B : Type 0} where
         )
 
 -- the first i points of a day show what they are to show, the others what they showed
-pub record Shown (h : History) (n d : ℕ) (fs : List ℕ) (i : ℕ) (old new : Sheet) : Type 0 where
+pub record ShowsFirstPoints (h : History) (n d : ℕ) (fs : List ℕ) (i : ℕ) (old new : Sheet) : Type 0 where
   pub done : (p : ℕ) → 1 ≤ p → p ≤ n → p ≤ i → figure_at new p d ≡ cond (is_some (covering h p d)) (figure_at old p d) (get_or fs (p - 1) 0)
   pub ahead : (p : ℕ) → 1 ≤ p → p ≤ n → i < p → figure_at new p d ≡ figure_at old p d
 
-module _ {h : History} {n d i : ℕ} {fs : List ℕ} {base old new : Sheet} (so_far : Shown h n d fs i base old) where
+module _ {h : History} {n d i : ℕ} {fs : List ℕ} {base old new : Sheet} (so_far : ShowsFirstPoints h n d fs i base old) where
   -- a covered point keeps its figure
-  pub shown_kept : is_some (covering h (i + 1) d) ≡ true → new ≡ old → Shown h n d fs (i + 1) base new
+  pub shown_kept : is_some (covering h (i + 1) d) ≡ true → new ≡ old → ShowsFirstPoints h n d fs (i + 1) base new
   shown_kept covers same = record {
     done = λ p low high below. ap (λ b. figure_at b p d) same
         ∙ ⊎_elim
@@ -75,7 +75,7 @@ module _ {h : History} {n d i : ℕ} {fs : List ℕ} {base old new : Sheet} (so_
   }
 
   -- any other takes its generated figure
-  pub shown_written : {x : ℕ} → is_some (covering h (i + 1) d) ≡ false → old.points ≡ n → i < n → SetsFigure (i + 1) d x old new → x ≡ get_or fs i 0 → Shown h n d fs (i + 1) base new
+  pub shown_written : {x : ℕ} → is_some (covering h (i + 1) d) ≡ false → old.points ≡ n → i < n → SetsFigure (i + 1) d x old new → x ≡ get_or fs i 0 → ShowsFirstPoints h n d fs (i + 1) base new
   shown_written {x} none many inside w is =
       let all : i + 1 ≤ old.points = omega arith in
       record {

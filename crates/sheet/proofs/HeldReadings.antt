@@ -1,4 +1,4 @@
--- Why the readings in the places of a ledger are the held ones. Assumes nothing.
+-- Why the readings in the places of a ledger are the held ones.
 use Rattle.std.proofs.Common.{◌≡◌, ℕ, suc, ◌<◌, ◌≤◌, Bool, true, cond, eqb, List, [], ◌∷◌, length, get_or, is_some, Some, None, vec_items, count_by, Option, sym, refl, ap, ◌∙◌, ⊎_elim, arith}
 use Rattle.std.proofs.lemmas.List.{get_or_past}
 use Rattle.std.proofs.lemmas.List.Sums.{get_or-le-sum_by}
@@ -70,7 +70,7 @@ placed_same r (Some x) e = ap Some (sym (same_reading_is r x e))
 -- Places and readings of which as many pass, whatever the test.
 module _
     (places : List (Option Reading)) (readings : List Reading)
-    (counted : (test : Reading → Bool) → count_by (placed test) places ≡ count_by test readings) where
+    (passes : (test : Reading → Bool) → count_by (placed test) places ≡ count_by test readings) where
   pub placed_is_among : (k : ℕ) (r : Reading) → get_or places k None ≡ Some r → Among r readings
   placed_is_among k r e =
       let test : Reading → Bool = same_reading r in
@@ -79,7 +79,7 @@ module _
       (λ high. absurd (false≢true (ap is_some (sym (get_or_past places k None high) ∙ e)))) (cases_lt k (length places)) in
       let one = get_or-le-sum_by (λ o. cond (placed test o) 1 0) places k None within in
       let here : ◌≡◌ {A = ℕ} (cond (placed test (get_or places k None)) 1 0) 1 = ap (λ o. cond (placed test o) 1 0) e ∙ cond-true (same_reading r r) 1 0 (same_reading_self r) in
-      let some : 0 < count_by test readings = omega (arith, one, here, counted test) in
+      let some : 0 < count_by test readings = omega (arith, one, here, passes test) in
       let found = some_among test readings (some_counted test readings ∙ lt-ltb 0 (count_by test readings) some) in
       let same : r ≡ found.0 = same_reading_is r found.0 found.2 in
       rw same found.1
@@ -87,7 +87,7 @@ module _
   pub among_is_placed : (r : Reading) → Among r readings → (k : ℕ) × (k < length places) × (get_or places k None ≡ Some r)
   among_is_placed r a =
       let test : Reading → Bool = same_reading r in
-      let found = count_found (placed test) places None (omega (arith, counted test, count_some test readings r a (same_reading_self r))) in
+      let found = count_found (placed test) places None (omega (arith, passes test, count_some test readings r a (same_reading_self r))) in
       (found.0, found.1, placed_same r (get_or places found.0 None) found.2)
 
 pub placed_is_held : {s : Setting} {h : History} {l : Ledger} → Follows s h l → (k : ℕ) (r : Reading) → get_or (vec_items l.places) k None ≡ Some r → Held h r

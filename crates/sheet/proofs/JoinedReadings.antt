@@ -1,4 +1,4 @@
--- Readings over a day, shared anew one after another. Assumes nothing.
+-- Readings over a day, shared anew one after another.
 use Rattle.std.proofs.Common.{◌≡◌, ℕ, ◌+◌, ◌*◌, ◌<◌, ◌≤◌, min, max, Bool, true, false, cond, ◌&&◌, List, length, get_or, is_some, Some, None, vec_items, Option, sym, refl, ap, ◌∙◌, subst, ⊎_elim, mul-le-mul_right, arith}
 use Rattle.std.proofs.lemmas.Bool.{and_parts, both_ways, cases_Bool, cases_lt, cond-false, cond-true}
 use Rattle.rules.specs.Figures.{share_on}
@@ -18,7 +18,7 @@ use Rattle.sheet.proofs.Changes.{knows_only}
 use Rattle.sheet.proofs.HeldReadings.{held_is_placed, placed_is_held}
 
 -- the days between which figures have changed hold a day and lie in the sheet
-pub record Spanned (day from to : ℕ) (old now : Sheet) : Type 0 where
+pub record LiesBetween (day from to : ℕ) (old now : Sheet) : Type 0 where
   pub low : from ≤ day
   pub high : day < to
   pub last : to ≤ old.days
@@ -46,8 +46,8 @@ only_both {old} {b} {new} from to start end first second =
           second.after k late ∙ first.after k (omega arith);
     }
 
-pub spanned_more : {old b new : Sheet} (day from to : ℕ) (r : Reading) → Spanned day from to old b → LiesInSheet b r → ChangesOnlyDays r.start r.end b new → Spanned day (min from r.start) (max to r.end) old new
-spanned_more day from to r so_far lies only = record {
+pub lies_between_more : {old b new : Sheet} (day from to : ℕ) (r : Reading) → LiesBetween day from to old b → LiesInSheet b r → ChangesOnlyDays r.start r.end b new → LiesBetween day (min from r.start) (max to r.end) old new
+lies_between_more day from to r so_far lies only = record {
   low = omega arith;
   high = omega arith;
   last = omega (arith, so_far.only.days, lies.last, so_far.last);
@@ -74,7 +74,7 @@ same_covering {s} {h} knows p d r o r_held o_held r_covers o_covers =
     cc
 
 -- the readings in the first i places that cover a day show their shares, and lie between two days; the others stand
-pub record SharedTo (s : Setting) (h : History) (places : List (Option Reading)) (i day from to : ℕ) (old now : Sheet) : Type 0 where
+pub record SharesFirstPlaces (s : Setting) (h : History) (places : List (Option Reading)) (i day from to : ℕ) (old now : Sheet) : Type 0 where
   pub shared : (k : ℕ) (r : Reading) → k < i → get_or places k None ≡ Some r → covers r r.point day ≡ true
       → (from ≤ r.start) × (r.end ≤ to) × ((d : ℕ) → covers r r.point d ≡ true → figure_at now r.point d ≡ share_on s h d r)
   pub kept : (p d : ℕ) (r : Reading) → covering h p d ≡ Some r → covers r r.point day ≡ false → figure_at now p d ≡ figure_at old p d
@@ -100,16 +100,16 @@ module _ (b : Sheet) (day : ℕ) where
   placed_not_found place law r is lies covering =
       let never : None ≡ Some r = law r is lies ∙ cond-true _ _ _ covering in let z : ◌≡◌ {A = ℕ} 0 1 = cc in omega arith
 
-module _ {s : Setting} {h : History} {l : Ledger} {old b : Sheet} (day i from to : ℕ) (knows : KnowsHistory s h l old) (spanned : Spanned day from to old b)
-    (so_far : SharedTo s h (vec_items l.places) i day from to old b) where
+module _ {s : Setting} {h : History} {l : Ledger} {old b : Sheet} (day i from to : ℕ) (knows : KnowsHistory s h l old) (between : LiesBetween day from to old b)
+    (so_far : SharesFirstPlaces s h (vec_items l.places) i day from to old b) where
   knows_now : KnowsHistory s h l b
-  knows_now = knows_only spanned.only knows
+  knows_now = knows_only between.only knows
 
   pub placed_lies : (k : ℕ) (r : Reading) → get_or (vec_items l.places) k None ≡ Some r → LiesInSheet b r
   placed_lies k r is = held_lies knows_now r (placed_is_held knows.follows k r is)
 
   -- one more place, without a reading over the day
-  pub shared_skip : ((r : Reading) → get_or (vec_items l.places) i None ≡ Some r → covers r r.point day ≡ true → ⊥) → SharedTo s h (vec_items l.places) (i + 1) day from to old b
+  pub shared_skip : ((r : Reading) → get_or (vec_items l.places) i None ≡ Some r → covers r r.point day ≡ true → ⊥) → SharesFirstPlaces s h (vec_items l.places) (i + 1) day from to old b
   shared_skip none = record {
     shared = λ k r less is covering.
         ⊎_elim (λ (before : k < i). so_far.shared k r before is covering)
@@ -132,7 +132,7 @@ module _ {s : Setting} {h : History} {l : Ledger} {old b : Sheet} (day i from to
         now ∙ cond-true _ _ _ also ∙ ap (share_on s h d) (same_covering knows r.point d reading r reading_held held also covered))
         (λ (apart : covers reading r.point d ≡ false). now ∙ cond-false _ _ _ apart ∙ before apart) (cases_Bool (covers reading r.point d))
 
-    pub shared_more : SharedTo s h (vec_items l.places) (i + 1) day (min from reading.start) (max to reading.end) old new
+    pub shared_more : SharesFirstPlaces s h (vec_items l.places) (i + 1) day (min from reading.start) (max to reading.end) old new
     shared_more = record {
       shared = λ k r less at covering.
           let held = placed_is_held knows.follows k r at in
@@ -165,12 +165,12 @@ module _ {s : Setting} {h : History} {l : Ledger} {old b : Sheet} (day i from to
     }
 
 -- what holds of two days and a sheet holds of equal ones
-pub moved : (P : ℕ → ℕ → Sheet → Type 0) (from from' to to' : ℕ) (b b' : Sheet) → from' ≡ from → to' ≡ to → b' ≡ b → P from to b → P from' to' b'
-moved P from from' to to' b b' from_is to_is b_is held =
+pub holds_of_equal : (P : ℕ → ℕ → Sheet → Type 0) (from from' to to' : ℕ) (b b' : Sheet) → from' ≡ from → to' ≡ to → b' ≡ b → P from to b → P from' to' b'
+holds_of_equal P from from' to to' b b' from_is to_is b_is held =
     subst (λ (x : Sheet). P from' to' x) (sym b_is) (subst (λ t. P from' t b) (sym to_is) (subst (λ f. P f to b) (sym from_is) held))
 
 -- once all places are done, the readings over the day show their shares
-pub shared_all : {s : Setting} {h : History} {l : Ledger} {old new : Sheet} (day i from to : ℕ) → KnowsHistory s h l old → length (vec_items l.places) ≤ i → SharedTo s h (vec_items l.places) i day from to old new → ShowsSharesOver s h day from to old new
+pub shared_all : {s : Setting} {h : History} {l : Ledger} {old new : Sheet} (day i from to : ℕ) → KnowsHistory s h l old → length (vec_items l.places) ≤ i → SharesFirstPlaces s h (vec_items l.places) i day from to old new → ShowsSharesOver s h day from to old new
 shared_all {s} {h} {l} {old} {new} day i from to knows all so_far = record {
   shared = λ p d r covering over.
       let found = covering_held s h knows.lawful p d r covering in

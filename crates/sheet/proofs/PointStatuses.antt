@@ -1,4 +1,4 @@
--- How a point stands on a day, from what a sheet knows. Assumes nothing.
+-- The status of a point on a day, from what a sheet knows.
 use Rattle.std.proofs.Common.{◌≡◌, ℕ, ◌-◌, ◌<◌, ◌≤◌, Bool, true, false, cond, ◌&&◌, ltb, get_or, is_some, Some, None, sym, refl, ap, ◌∙◌}
 use Rattle.std.proofs.lemmas.Bool.{le-leb, lt-leb}
 use Rattle.rules.specs.Figures.{active, begun}
@@ -9,16 +9,16 @@ use Rattle.sheet.specs.SheetOfHistory.{KnowsHistory, status_of}
 use Rattle.sheet.specs.declared.sheet.PointStatus.TheVariants.{Absent, Covered, Estimated}
 use Rattle.sheet.specs.declared.sheet.Sheet.{Sheet}
 
--- a point stands by whether it is active and whether the day lies before what is covered
-standing_by : (covered active before : Bool) → covered ≡ (active && before) → cond active (cond before Covered Estimated) Absent ≡ cond covered Covered (cond active Estimated Absent)
-standing_by covered true true e = rw e refl
-standing_by covered true false e = rw e refl
-standing_by covered false before e = rw e refl
+-- the status of a point by whether it is active and whether the day lies before what is covered
+status_by : (covered active before : Bool) → covered ≡ (active && before) → cond active (cond before Covered Estimated) Absent ≡ cond covered Covered (cond active Estimated Absent)
+status_by covered true true e = rw e refl
+status_by covered true false e = rw e refl
+status_by covered false before e = rw e refl
 
 module _ {s : Setting} {h : History} {l : Ledger} {b : Sheet} (knows : KnowsHistory s h l b) (p d : ℕ) (low : 1 ≤ p) (high : p ≤ b.points) where
   known : cond (active h p d) (cond (ltb d (get_or b.cover_ends (p - 1) 0)) Covered Estimated) Absent ≡ status_of h p d
   known =
-      standing_by (is_some (covering h p d)) (active h p d) (ltb d (get_or b.cover_ends (p - 1) 0)) (knows.covered p d low (rw knows.points at high))
+      status_by (is_some (covering h p d)) (active h p d) (ltb d (get_or b.cover_ends (p - 1) 0)) (knows.covered p d low (rw knows.points at high))
 
   -- a point that is not enrolled, or that starts later, is absent
   pub absent : active h p d ≡ false → Absent ≡ status_of h p d

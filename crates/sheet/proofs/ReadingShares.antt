@@ -1,4 +1,4 @@
--- Days by their weights, and shares shown day by day. Assumes nothing.
+-- Days by their weights, and shares shown day by day.
 use Rattle.std.proofs.Common.{◌≡◌, ℕ, ◌+◌, ◌-◌, ◌*◌, ◌<◌, ◌≤◌, true, false, cond, ◌&&◌, eqb, ltb, leb, List, ◌++◌, map, length, get_or, set, take, drop, None, sum, vec_items, vec_len, unwrap_or, sym, refl, ap, ◌∙◌, ⊎_elim, subst, mul-le-mul, arith}
 use Rattle.std.proofs.lemmas.List.FromFn.{get_or-map-range_with_len, length-map-range_with_len}
 use Rattle.std.proofs.lemmas.List.{drop-map, ext_get_or, get_or-append_right, get_or-drop, get_or-map, get_or-set_other, get_or-set_same, get_or-take, get_or_append_left, length-drop, length-map, length-set, length-take-le, map-append, take-append-drop, take-map}

@@ -1,4 +1,4 @@
--- Rows of estimated points, and what scaling makes of them. Assumes nothing.
+-- Rows of estimated points, and what scaling makes of them.
 use Rattle.std.proofs.Common.{◌≡◌, ℕ, ◌+◌, ◌-◌, ◌*◌, ◌<◌, ◌≤◌, Bool, true, cond, T, leb, ltb, List, length, get_or, set, IfSome, Some, None, Ok, Err, Result, sum, Option, unwrap_or, sym, refl, ap, ◌∙◌, subst, ⊎_elim, mul-le-mul, arith, le→leb}
 use Rattle.std.proofs.lemmas.List.{get_or-set_other, get_or-set_same, length-map, map-set}
 use Rattle.std.proofs.lemmas.Bool.{and_from, cases_eq, cases_lt, cond-true, le-leb, le-ltb, lt-ltb}

@@ -20,35 +20,35 @@ use Rattle.sheet.specs.declared.account.Account.{Account}
 use Rattle.sheet.specs.declared.sheet.Sheet.{Sheet}
 use Rattle.sheet.proofs.GeneratedFigures.{supplied_shown}
 
-module _ (counted : ℕ → Bool) (b : Sheet) (d : ℕ) where
-  pub sum_where_none : sum_where counted b d 0 ≡ 0
+module _ (passes : ℕ → Bool) (b : Sheet) (d : ℕ) where
+  pub sum_where_none : sum_where passes b d 0 ≡ 0
   unfolding sum_where
   sum_where_none = refl
 
-  pub sum_where_more : (n : ℕ) → sum_where counted b d (n + 1) ≡ sum_where counted b d n + cond (counted (n + 1)) (figure_at b (n + 1) d) 0
+  pub sum_where_more : (n : ℕ) → sum_where passes b d (n + 1) ≡ sum_where passes b d n + cond (passes (n + 1)) (figure_at b (n + 1) d) 0
   unfolding sum_where
   sum_where_more n =
-      let each : ℕ → ℕ = λ p. cond (counted p) (figure_at b p d) 0 in
+      let each : ℕ → ℕ = λ p. cond (passes p) (figure_at b p d) 0 in
       ap sum (map-range_with_len_more each 1 n (n + 1) (omega arith)) ∙ sum_by_push (λ x. x) (map each (range_with_len 1 n)) (each (n + 1))
 
   -- the figures before point p, and its own
-  sum_where_with : (p : ℕ) → 1 ≤ p → sum_where counted b d (p + 1 - 1) ≡ sum_where counted b d (p - 1) + cond (counted p) (figure_at b p d) 0
+  sum_where_with : (p : ℕ) → 1 ≤ p → sum_where passes b d (p + 1 - 1) ≡ sum_where passes b d (p - 1) + cond (passes p) (figure_at b p d) 0
   sum_where_with p low =
       let next : p + 1 - 1 ≡ p - 1 + 1 = omega arith in
       let here : p - 1 + 1 ≡ p = omega arith in
-      ap (sum_where counted b d) next ∙ sum_where_more (p - 1) ∙ ap (λ q. sum_where counted b d (p - 1) + cond (counted q) (figure_at b q d) 0) here
+      ap (sum_where passes b d) next ∙ sum_where_more (p - 1) ∙ ap (λ q. sum_where passes b d (p - 1) + cond (passes q) (figure_at b q d) 0) here
 
-  -- one more figure counted, up to the largest number
-  pub sum_where_step : (p total : ℕ) → 1 ≤ p → counted p ≡ true → total ≡ min (sum_where counted b d (p - 1)) (2 ^ 64 - 1) → min (total + figure_at b p d) (2 ^ 64 - 1) ≡ min (sum_where counted b d (p + 1 - 1)) (2 ^ 64 - 1)
-  sum_where_step p total low passes so_far =
-      let more : sum_where counted b d (p + 1 - 1) ≡ sum_where counted b d (p - 1) + figure_at b p d =
-      sum_where_with p low ∙ ap (λ t. sum_where counted b d (p - 1) + cond t (figure_at b p d) 0) passes in
+  -- one more figure passes, up to the largest number
+  pub sum_where_step : (p total : ℕ) → 1 ≤ p → passes p ≡ true → total ≡ min (sum_where passes b d (p - 1)) (2 ^ 64 - 1) → min (total + figure_at b p d) (2 ^ 64 - 1) ≡ min (sum_where passes b d (p + 1 - 1)) (2 ^ 64 - 1)
+  sum_where_step p total low passed so_far =
+      let more : sum_where passes b d (p + 1 - 1) ≡ sum_where passes b d (p - 1) + figure_at b p d =
+      sum_where_with p low ∙ ap (λ t. sum_where passes b d (p - 1) + cond t (figure_at b p d) 0) passed in
       omega (arith, more, so_far)
 
-  pub sum_where_skip : (p total : ℕ) → 1 ≤ p → counted p ≡ false → total ≡ min (sum_where counted b d (p - 1)) (2 ^ 64 - 1) → total ≡ min (sum_where counted b d (p + 1 - 1)) (2 ^ 64 - 1)
+  pub sum_where_skip : (p total : ℕ) → 1 ≤ p → passes p ≡ false → total ≡ min (sum_where passes b d (p - 1)) (2 ^ 64 - 1) → total ≡ min (sum_where passes b d (p + 1 - 1)) (2 ^ 64 - 1)
   sum_where_skip p total low fails so_far =
-      let same : sum_where counted b d (p + 1 - 1) ≡ sum_where counted b d (p - 1) =
-      sum_where_with p low ∙ ap (λ t. sum_where counted b d (p - 1) + cond t (figure_at b p d) 0) fails ∙ omega arith in
+      let same : sum_where passes b d (p + 1 - 1) ≡ sum_where passes b d (p - 1) =
+      sum_where_with p low ∙ ap (λ t. sum_where passes b d (p - 1) + cond t (figure_at b p d) 0) fails ∙ omega arith in
       omega (arith, same, so_far)
 
 -- an estimated point has no estimate on a day

@@ -1,6 +1,7 @@
 -- A sheet of daily figures: its points, days and figures, and what a change leaves of them.
-use Rattle.std.specs.Prelude.{◌≡◌, ℕ, ◌+◌, ◌-◌, ◌*◌, ◌^◌, ◌<◌, ◌≤◌, min, Bool, true, false, if◌then◌else◌, ◌&&◌, List, map, Some, None, Option, sum, vec_items, vec_len, nat_le, nat_lt, slice_index, slice_index_or, slice_set}
+use Rattle.std.specs.Prelude.{◌≡◌, ℕ, ◌+◌, ◌-◌, ◌*◌, ◌^◌, ◌<◌, ◌≤◌, min, Bool, true, false, if◌then◌else◌, ◌&&◌, List, map, Some, None, Option, sum, vec_items, vec_len, nat_le, nat_lt, slice_index, slice_index_or, slice_set, Vec}
 use Rattle.std.specs.List.{range_with_len}
+use Rattle.std.specs.declared.alloc.Global.{Global}
 use Rattle.estimators.specs.Limits.{last_day, last_point}
 use Rattle.rules.specs.Calls.{largest_energy}
 use Rattle.rules.specs.declared.entry.Reading.{Reading}
@@ -26,7 +27,10 @@ IsInSheet sheet point day = IsPointOfSheet sheet point × IsDayOfSheet sheet day
 abbrev pub is_in_sheet : Sheet → ℕ → ℕ → Bool
 is_in_sheet sheet point day = nat_le 1 point && (nat_le point sheet.points && nat_lt day sheet.days)
 
--- the figures of a sheet, day by day and by point, and what lies beyond them in its list
+-- the list of a sheet: its figures, day by day and by point, and what lies beyond them
+abbrev pub list_of_sheet : Sheet → Vec ℕ Global
+list_of_sheet sheet = sheet.figures
+
 abbrev pub figures_of_sheet : Sheet → List ℕ
 figures_of_sheet sheet = vec_items sheet.figures
 

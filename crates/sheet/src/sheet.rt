@@ -87,7 +87,7 @@ impl Sheet {
     ghost use Rattle.sheet.specs.Account.{day_account};
     ghost use Rattle.sheet.specs.Sheet as sheets;
     ghost use Rattle.sheet.specs.Sheet.{IsDayOfSheet, IsInSheet, IsPointOfSheet, SetsFigure};
-    ghost use Rattle.sheet.specs.Sheet.{can_open_sheet, figure_place, figures_of_sheet, is_in_sheet, lies_in_sheet};
+    ghost use Rattle.sheet.specs.Sheet.{can_open_sheet, figure_place, figures_of_sheet, is_in_sheet, lies_in_sheet, list_of_sheet};
     ghost use Rattle.sheet.specs.SheetOfHistory.{ForKnown, ForKnownOn, ForShown, MeansEstimatesOn, OpensSheet, status_of};
 
     /// A sheet of so many days and points without any figure, in the memory of a list.
@@ -114,7 +114,7 @@ impl Sheet {
 
     /// Ends the sheet and gives its list back as it is.
     pub fn close(self) -> Vec<u64>
-        ensures { result ≡ self.figures }
+        ensures { result ≡ list_of_sheet self }
     {
         let Sheet { figures, .. } = self;
         figures
