@@ -1,4 +1,4 @@
-use Rattle.sheet.proofs.CoveredTo.{covered_after_degree_days, covered_after_enrolment, covered_after_gate, covered_after_interval, covered_after_reading, covered_at_opening}
+use Rattle.sheet.proofs.Coverage.{covered_after_degree_days, covered_after_enrolment, covered_after_gate, covered_after_interval, covered_after_reading, covered_at_opening}
 use Rattle.sheet.proofs.place_laws.coverage_reaches.Goals as goal
 
 pub returns : goal.returns

@@ -1,4 +1,4 @@
-use Rattle.sheet.proofs.Placed.{held_is_placed, placed_is_held, same_reading_is, same_reading_self}
+use Rattle.sheet.proofs.HeldReadings.{held_is_placed, placed_is_held, same_reading_is, same_reading_self}
 use Rattle.sheet.proofs.place_laws.places_hold_held_readings.Goals as goal
 
 pub returns : goal.returns

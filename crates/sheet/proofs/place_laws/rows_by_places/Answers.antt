@@ -1,4 +1,4 @@
-use Rattle.sheet.proofs.Rows.{cell_after, cell_apart, cell_before, from_counting, handed_estimates, handed_figures, handed_shares, handed_weights, same_drop}
+use Rattle.sheet.proofs.RowsByPlaces.{from_counting, handed_estimates, handed_figures, handed_shares, handed_weights, place_after, place_apart, place_before, same_drop}
 use Rattle.sheet.proofs.place_laws.rows_by_places.Goals as goal
 
 pub returns : goal.returns
@@ -9,7 +9,7 @@ returns c = record {
   handed_estimates = handed_estimates;
   handed_shares = handed_shares;
   handed_weights = handed_weights;
-  cell_apart = cell_apart;
-  cell_before = cell_before;
-  cell_after = cell_after;
+  place_apart = place_apart;
+  place_before = place_before;
+  place_after = place_after;
 }
