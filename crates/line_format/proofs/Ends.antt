@@ -5,7 +5,7 @@ use Rattle.terms.specs.declared.refusal.Refusal.{Refusal}
 use Rattle.std.proofs.lemmas.Bool.Decides.{nat_tests}
 use Rattle.calendar.specs.Gregorian.{leap, month_lengths, days_before_month, year_length, days_before_year}
 use Rattle.calendar.specs.Digits.{is_date, day_number_of}
-use Rattle.line_format.specs.Dates.{ends_in_time}
+use Rattle.line_format.specs.Limits.{ends_in_time}
 
 -- the number of 30 December 2099
 pub last_end : day_number_of 20991230 ≡ 36157

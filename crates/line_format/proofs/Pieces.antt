@@ -4,16 +4,18 @@ use Rattle.std.specs.List.{flat_map}
 use Rattle.std.proofs.lemmas.List.{take-append-drop, drop-drop, drop_more, drop_all}
 use Rattle.std.proofs.lemmas.Bool.{and_parts, eqb-true}
 use Rattle.terms.specs.declared.refusal.Refusal.{Refusal}
-use Rattle.line_format.specs.Kinds.{Kind, Held, width, fits, columns, blank, no_letter}
-use Rattle.line_format.specs.Reads.{Reads, ReadAs}
-use Rattle.line_format.specs.Parts.{Part, part, Leftmost, Stands, Malformed, PartRead, PartReadAs, RestRead, fault_at, Standing, none, next, here, further}
-use Rattle.line_format.specs.Records.{Cell, all_fit, line_of}
-use Rattle.line_format.specs.Tags.{tag_bytes}
-use Rattle.line_format.specs.Whole.{whole, fed}
+use Rattle.line_format.specs.Kind.{Kind, Value, width, fits, columns, blank, no_letter}
+use Rattle.line_format.specs.Columns.{InvertsWriting}
+use Rattle.line_format.specs.FieldValue.{ReadsField}
+use Rattle.line_format.specs.Segment.{Segment, segment, IsLeftmostFault, HoldsValue, IsMalformed, ReadsSegment, ReadsSegmentAs, ReadsUnusedRest, HoldsContents, none, next, here, further}
+use Rattle.line_format.specs.Fault.{at_column}
+use Rattle.line_format.specs.Record.{Content, all_fit, line_bytes}
+use Rattle.line_format.specs.Tag.{tag_bytes}
+use Rattle.line_format.specs.Line.{is_line, ends_with_line_feed}
 use Rattle.line_format.specs.declared.fault.Fault.{Fault}
 use Rattle.line_format.specs.declared.tag.Tag.{Tag}
 
-first : {p : Part} {ps : List Part} {c : ℕ} → Leftmost (p ∷ []) c → Leftmost (p ∷ ps) c
+first : {p : Segment} {ps : List Segment} {c : ℕ} → IsLeftmostFault (p ∷ []) c → IsLeftmostFault (p ∷ ps) c
 first (here e bad) = here e bad
 first (further good more) = elim more [ ]
 
@@ -22,30 +24,30 @@ T_and true y p q = q
 T_and false y p q = p
 
 -- a part at fault, and one further right than a good one
-pub at : {p : Part} {ps : List Part} {f : Fault} → Malformed (p ∷ []) f → Malformed (p ∷ ps) f
+pub at : {p : Segment} {ps : List Segment} {f : Fault} → IsMalformed (p ∷ []) f → IsMalformed (p ∷ ps) f
 at {p} {ps} {f} m = record { refusal = m.refusal; column = first m.column }
 
-pub past : {p : Part} {x : Held p.kind} {ps : List Part} {f : Fault} → Stands p x → Malformed ps f → Malformed (p ∷ ps) f
+pub past : {p : Segment} {x : Value p.kind} {ps : List Segment} {f : Fault} → HoldsValue p x → IsMalformed ps f → IsMalformed (p ∷ ps) f
 past {p} {x} s m = record { refusal = m.refusal; column = further (x, s.fit, s.written) m.column }
 
 -- what is read of a part's bytes, with its column, is read of the part
-pub part_read_as : {X : Type 0} (p : Part) (held : X → Held p.kind) (bytes : List ℕ) (c : ℕ) (q : Result X Refusal) (r : Result X Fault) → bytes ≡ p.bytes → c ≡ p.column → ReadAs p.kind held bytes q → r ≡ fault_at c q → PartReadAs p held r
-part_read_as p held bytes c (Ok x) r same start read e =
-    subst (PartReadAs p held) (sym e) (record { fit = read.0; written = sym same ∙ read.1 })
-part_read_as p held bytes c (Err f) r same start read e =
-    subst (PartReadAs p held) (sym e) (record { refusal = read.0; column = here start (λ good. read.1 good.0 good.1 (same ∙ good.2)) })
+pub part_read_as : {X : Type 0} (p : Segment) (value_of : X → Value p.kind) (bytes : List ℕ) (c : ℕ) (q : Result X Refusal) (r : Result X Fault) → bytes ≡ p.bytes → c ≡ p.column → ReadsField p.kind value_of bytes q → r ≡ at_column c q → ReadsSegmentAs p value_of r
+part_read_as p value_of bytes c (Ok x) r same start read e =
+    subst (ReadsSegmentAs p value_of) (sym e) (record { fit = read.0; written = sym same ∙ read.1 })
+part_read_as p value_of bytes c (Err f) r same start read e =
+    subst (ReadsSegmentAs p value_of) (sym e) (record { refusal = read.0; column = here start (λ good. read.1 good.0 good.1 (same ∙ good.2)) })
 
 -- the same of a field of ten columns
-pub field_read : {X : Type 0} (k : Kind) (held : X → Held k) → width k ≡ 10 → (line : List ℕ) (start : ℕ) (bytes : List ℕ) (c : ℕ) (q : Result X Refusal) (r : Result X Fault) → bytes ≡ take 10 (drop start line) → c ≡ start + 1 → ReadAs k held bytes q → r ≡ fault_at c q → PartReadAs (part k start line) held r
-field_read k held ten line start bytes c q r same column read e =
-    part_read_as (part k start line) held bytes c q r (same ∙ ap (λ n. take n (drop start line)) (sym ten)) column read e
+pub field_read : {X : Type 0} (k : Kind) (value_of : X → Value k) → width k ≡ 10 → (line : List ℕ) (start : ℕ) (bytes : List ℕ) (c : ℕ) (q : Result X Refusal) (r : Result X Fault) → bytes ≡ take 10 (drop start line) → c ≡ start + 1 → ReadsField k value_of bytes q → r ≡ at_column c q → ReadsSegmentAs (segment k start line) value_of r
+field_read k value_of ten line start bytes c q r same column read e =
+    part_read_as (segment k start line) value_of bytes c q r (same ∙ ap (λ n. take n (drop start line)) (sym ten)) column read e
 
 -- the same where the value is what it holds
-read_as_itself : (k : Kind) (bytes : List ℕ) (q : Result (Held k) Refusal) → Reads (fits k) (columns k) bytes q → ReadAs k (λ x. x) bytes q
+read_as_itself : (k : Kind) (bytes : List ℕ) (q : Result (Value k) Refusal) → InvertsWriting (fits k) (columns k) bytes q → ReadsField k (λ x. x) bytes q
 read_as_itself k bytes (Ok x) read = read
 read_as_itself k bytes (Err e) read = read
 
-pub part_read : (p : Part) (bytes : List ℕ) (c : ℕ) (q : Result (Held p.kind) Refusal) (r : Result (Held p.kind) Fault) → bytes ≡ p.bytes → c ≡ p.column → Reads (fits p.kind) (columns p.kind) bytes q → r ≡ fault_at c q → PartRead p r
+pub part_read : (p : Segment) (bytes : List ℕ) (c : ℕ) (q : Result (Value p.kind) Refusal) (r : Result (Value p.kind) Fault) → bytes ≡ p.bytes → c ≡ p.column → InvertsWriting (fits p.kind) (columns p.kind) bytes q → r ≡ at_column c q → ReadsSegment p r
 part_read p bytes c q r same start read e =
     part_read_as p (λ x. x) bytes c q r same start (read_as_itself p.kind bytes q read) e
 
@@ -58,24 +60,24 @@ cut : (line : List ℕ) (n k : ℕ) (xs : List ℕ) → take k (drop n line) ≡
 cut line n k xs e = sym (take-append-drop k (drop n line)) ∙ rw (e, drop-drop)
 
 -- how many columns they take
-abbrev pub widths : List Cell → ℕ
+abbrev pub widths : List Content → ℕ
 widths [] = 0
 widths (c ∷ cs) = width c.kind + widths cs
 
-stand_fit : {line : List ℕ} {n : ℕ} {cs : List Cell} → Standing line n cs → T (all_fit cs)
+stand_fit : {line : List ℕ} {n : ℕ} {cs : List Content} → HoldsContents line n cs → T (all_fit cs)
 stand_fit none = tt
 stand_fit (next {k = k} {x = x} {cs = cs} s rest) = T_and (fits k x) (all_fit cs) s.fit (stand_fit rest)
 
-stand_join : {line : List ℕ} {n : ℕ} {cs : List Cell} → Standing line n cs → drop n line ≡ flat_map (λ c. columns c.kind c.value) cs ++ drop (n + widths cs) line
+stand_join : {line : List ℕ} {n : ℕ} {cs : List Content} → HoldsContents line n cs → drop n line ≡ flat_map (λ c. columns c.kind c.value) cs ++ drop (n + widths cs) line
 stand_join {line} {n} none = rw add-zero
 stand_join {line} {n} (next {k = k} {x = x} {cs = cs} s rest) =
     let more = stand_join rest in
     cut line n (width k) (columns k x) s.written ∙ rw (more, append_assoc, add_assoc)
 
 -- a whole line is its tag, its cells and a line feed
-pub assembled : (t : Tag) (line : List ℕ) {cs : List Cell} → whole line ≡ true → take 4 line ≡ tag_bytes t → Standing line 4 cs → widths cs ≡ 41 → T (all_fit cs) × (line ≡ line_of t cs)
+pub assembled : (t : Tag) (line : List ℕ) {cs : List Content} → is_line line ≡ true → take 4 line ≡ tag_bytes t → HoldsContents line 4 cs → widths cs ≡ 41 → T (all_fit cs) × (line ≡ line_bytes t cs)
 assembled t line {cs} h tag s w =
-    let p = and_parts (eqb (length line) 46) (fed line) h in
+    let p = and_parts (eqb (length line) 46) (ends_with_line_feed line) h in
     let long = eqb-true (length line) 46 p.0 in
     let last : length line - 1 ≡ 45 = omega arith in
     let feed : get_or line 45 0 ≡ 10 = rw last at (eqb-true (get_or line (length line - 1) 0) 10 p.1) in
@@ -86,6 +88,6 @@ assembled t line {cs} h tag s w =
     (stand_fit s, sym start ∙ rw (tag, rest, more, end))
 
 -- the fourth field and the letter
-pub rest_read : (line : List ℕ) (r : Result (Unit {0}) Fault) → Stands (part blank 34 line) tt → PartRead (part no_letter 44 line) r → RestRead line r
+pub rest_read : (line : List ℕ) (r : Result (Unit {0}) Fault) → HoldsValue (segment blank 34 line) tt → ReadsSegment (segment no_letter 44 line) r → ReadsUnusedRest line r
 rest_read line (Ok x) s p = (s, p)
 rest_read line (Err f) s p = past s p
