@@ -9,7 +9,7 @@ use Rattle.line_format.specs.declared.signed_digits.SignedDigits.{SignedDigits}
 use Rattle.line_format.specs.Kind.{Kind, Value, width, fits, columns, number, signed, date, blank, reading_type, no_letter}
 use Rattle.terms.specs.declared.reading_type.ReadingType.{ReadingType}
 use Rattle.terms.specs.declared.reading_type.ReadingType.TheVariants.{Actual, Substituted, Estimated, CustomersOwn}
-use Rattle.line_format.proofs.Holding.{number_sort, signed_sort, date_sort, blank_sort, stands, ten_columns, told_by_columns}
+use Rattle.line_format.proofs.KindTexts.{number_sort, signed_sort, date_sort, blank_sort, stands, ten_columns, same_from_columns}
 
 pub length_columns : (k : Kind) (x : Value k) → T (fits k x) → length (columns k x) ≡ width k
 length_columns number n h = ten_columns number_sort n h
@@ -33,13 +33,13 @@ type_back CustomersOwn = refl
 same_type : (s t : ReadingType) → letter_of s ≡ letter_of t → s ≡ t
 same_type s t e = sym (type_back s) ∙ ap type_of e ∙ type_back t
 
-pub told : (k : Kind) (x y : Value k) → T (fits k x) → T (fits k y) → columns k x ≡ columns k y → x ≡ y
-told number m n h k e = told_by_columns number_sort m n h k e
-told signed m n h k e = told_by_columns signed_sort m n h k e
-told date m n h k e = told_by_columns date_sort m n h k e
-told blank m n h k e = refl
-told reading_type s t h k e = same_type s t (ap (λ l. get_or l 0 0) e)
-told no_letter m n h k e = refl
+pub value_from_columns : (k : Kind) (x y : Value k) → T (fits k x) → T (fits k y) → columns k x ≡ columns k y → x ≡ y
+value_from_columns number m n h k e = same_from_columns number_sort m n h k e
+value_from_columns signed m n h k e = same_from_columns signed_sort m n h k e
+value_from_columns date m n h k e = same_from_columns date_sort m n h k e
+value_from_columns blank m n h k e = refl
+value_from_columns reading_type s t h k e = same_type s t (ap (λ l. get_or l 0 0) e)
+value_from_columns no_letter m n h k e = refl
 
 -- what takes ten columns stands there as a text, so columns that are no text are read as nothing
 stands_as_text : (k : Kind) → width k ≡ 10 → (x : Value k) → T (fits k x) → (t : SignedDigits) × T (text_fits t) × (columns k x ≡ text_columns t)

@@ -24,21 +24,16 @@ Value no_letter = Unit {0}
 
 -- how many columns each kind takes
 abbrev pub width : Kind → ℕ
-width number = 10
-width signed = 10
-width date = 10
-width blank = 10
 width reading_type = 1
 width no_letter = 1
+width _ = 10
 
 -- which values fit their columns
 abbrev pub fits : (k : Kind) → Value k → Bool
 fits number n = number_fits n
 fits signed z = signed_fits z
 fits date d = date_fits d
-fits blank _ = true
-fits reading_type _ = true
-fits no_letter _ = true
+fits _ _ = true
 
 -- the columns of a value
 abbrev pub columns : (k : Kind) → Value k → List ℕ

@@ -42,10 +42,7 @@ abbrev pub in_range : Range → (k : Kind) → Value k → Bool
 in_range r number n = nat_le r.least n && nat_le n r.most
 in_range r signed (pos n) = nat_le n r.most
 in_range r signed (negsuc n) = true
-in_range r date d = true
-in_range r blank x = true
-in_range r reading_type t = true
-in_range r no_letter x = true
+in_range r _ _ = true
 
 -- the same of each of the fields
 abbrev pub all_in_range : List Range → List Content → List Bool
@@ -63,12 +60,7 @@ ends_in_time first_date days =
 abbrev pub first_in_time : Limits → Record → Bool
 first_in_time l (of.Opening r) =
     not (nat_le 1 r.days && nat_le r.days l.days) || ends_in_time r.first_date r.days
-first_in_time l (of.Factors r) = true
-first_in_time l (of.Enrolment r) = true
-first_in_time l (of.GateDay r) = true
-first_in_time l (of.IntervalEnergy r) = true
-first_in_time l (of.DegreeDays r) = true
-first_in_time l (of.Reading r) = true
+first_in_time l _ = true
 
 -- the first of the fields is held to one more test
 abbrev pub first_also : Bool → List Bool → List Bool
@@ -82,12 +74,8 @@ numbers_within l r =
 
 -- what stands in a field is no date, or a date that exists
 abbrev pub exists_if_date : (k : Kind) → Value k → Bool
-exists_if_date number n = true
-exists_if_date signed z = true
 exists_if_date date d = is_date d
-exists_if_date blank x = true
-exists_if_date reading_type t = true
-exists_if_date no_letter x = true
+exists_if_date _ _ = true
 
 -- the same of each of the four fields
 abbrev pub dates_exist : Record → List Bool

@@ -4,6 +4,9 @@ ghost use Rattle.line_format.specs.Fault.{on_line, at_column};
 use terms::{Layer, Refusal};
 use thiserror::Error;
 
+/// Lines are numbered from 1 to this, a number of ten digits, which all later lines share.
+pub const LAST_LINE_NUMBER: u64 = 9_999_999_999;
+
 /// Why a line is refused, and at which column, counted from 1: the first of the leftmost part at fault.
 #[derive(Clone, Copy, PartialEq, Eq, Debug, Error)]
 #[error("refusal {}, column {column}", .refusal.number())]

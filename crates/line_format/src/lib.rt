@@ -25,7 +25,7 @@ mod record;
 mod signed_digits;
 mod tag;
 
-pub use fault::{Fault, LineFault, on_line};
+pub use fault::{Fault, LAST_LINE_NUMBER, LineFault, on_line};
 pub use field::Field;
 pub use limits::{Limits, check_limits};
 pub use line::{check_line, read_back, read_line, write_again};

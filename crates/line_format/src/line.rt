@@ -31,10 +31,8 @@ pub(crate) struct Line {
 impl TryFrom<&[u8]> for Line {
     type Error = Fault;
 
-    ghost try_from_gives = {
-        λ bytes r. MatchResult r (λ line. line.bytes ≡ bytes.now)
-        (λ f. (number_of f.refusal ≡ 1) × (f.column ≡ column_past_end bytes.now) × (is_line bytes.now ≡ false))
-    };
+    ghost try_from_gives = { λ bytes r. MatchResult r (λ line. line.bytes ≡ bytes.now)
+        (λ f. (number_of f.refusal ≡ 1) × (f.column ≡ column_past_end bytes.now) × (is_line bytes.now ≡ false)) };
 
     fn try_from(bytes: &[u8]) -> Result<Line, Fault> {
         match <[u8; 46]>::try_from(bytes) {

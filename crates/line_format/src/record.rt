@@ -209,10 +209,8 @@ fn joined_line(
     fields: &[Result<[u8; 10], Refusal>; 4],
     letter: Option<ReadingType>,
 ) -> Result<[u8; 46], Refusal>
-    ensures {
-        (cs : List Content) → WritesFields cs fields.now
-        → WritesLine tag (cs ++ letter_content letter ∷ []) result
-    }
+    ensures { (cs : List Content) → WritesFields cs fields.now
+        → WritesLine tag (cs ++ letter_content letter ∷ []) result }
 {
     let mut line = [0; 46];
     put(&mut line, 0, &<[u8; 4]>::from(tag));

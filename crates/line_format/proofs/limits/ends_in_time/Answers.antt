@@ -1,5 +1,5 @@
 use Rattle.std.proofs.Common.{rules}
-use Rattle.line_format.proofs.Ends.{ends_either}
+use Rattle.line_format.proofs.BookEnds.{ends_either}
 use Rattle.line_format.proofs.limits.ends_in_time.Goals as goal
 
 pub returns : goal.returns

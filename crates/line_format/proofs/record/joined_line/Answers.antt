@@ -1,11 +1,11 @@
 use Rattle.std.proofs.Common.{◌≡◌, ◌<◌, length, get_or, [], ◌∷◌, ◌++◌, Ok, subst, arith, rules}
 use Rattle.line_format.proofs.Exits.{at_exit}
 use Rattle.line_format.specs.Record.{blank_field, letter_content, WritesField, WritesLine}
-use Rattle.line_format.proofs.Joining.{begun, one_more, field_written, length_fields, line_written, field_unfit}
+use Rattle.line_format.proofs.LineBytes.{front_of_tag, front_of_field, field_written, length_fields, line_written, field_unfit}
 use Rattle.line_format.proofs.record.joined_line.Goals as goal
 
 pub loop-place-init : goal.loop-place-init
-loop-place-init c = λ cs w. begun _ cs _ _ [] c.from.ensures (search rules) c.put.ensures
+loop-place-init c = λ cs w. front_of_tag _ cs _ _ [] c.from.ensures (search rules) c.put.ensures
 
 pub loop-place-preserved : goal.loop-place-preserved
 loop-place-preserved c =
@@ -14,7 +14,7 @@ loop-place-preserved c =
     let inside : c.loop-place.place < length c.args.fields.now = omega (arith, c.loop-place-test.true) in
     let same = length_fields cs c.args.fields.now w in
     let field = subst (WritesField (get_or cs c.loop-place.place blank_field)) c.in_ok-field.was (field_written cs c.args.fields.now c.loop-place.place (Ok []) inside w) in
-    one_more _ cs c.loop-place.place _ _ _ (omega (arith, inside)) (search rules) field (c.loop-place.invariant cs w) c.put-in-loop-place.ensures
+    front_of_field _ cs c.loop-place.place _ _ _ (omega (arith, inside)) (search rules) field (c.loop-place.invariant cs w) c.put-in-loop-place.ensures
 
 pub returns-in_err-field : goal.returns-in_err-field
 returns-in_err-field c =

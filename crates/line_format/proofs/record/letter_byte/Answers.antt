@@ -1,5 +1,5 @@
 use Rattle.std.proofs.Common.{rules}
-use Rattle.line_format.proofs.Joining.{letter_written}
+use Rattle.line_format.proofs.LineBytes.{letter_written}
 use Rattle.line_format.proofs.record.letter_byte.Goals as goal
 
 pub returns : goal.returns

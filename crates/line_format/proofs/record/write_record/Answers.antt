@@ -1,6 +1,6 @@
 use Rattle.line_format.proofs.Exits.{at_exit}
 use Rattle.line_format.specs.Record.{WritesRecord}
-use Rattle.line_format.proofs.Joining.{unfit_unwritten}
+use Rattle.line_format.proofs.LineBytes.{unfit_unwritten}
 use Rattle.line_format.proofs.record.write_record.Goals as goal
 
 pub returns-in_err-line : goal.returns-in_err-line

@@ -1,5 +1,5 @@
 use Rattle.std.proofs.Common.{rules}
-use Rattle.line_format.proofs.Holding.{date_sort, by_test}
+use Rattle.line_format.proofs.KindTexts.{date_sort, by_test}
 use Rattle.line_format.proofs.eight_digits.EightDigitsFieldValue.from_text.Goals as goal
 
 pub returns : goal.returns

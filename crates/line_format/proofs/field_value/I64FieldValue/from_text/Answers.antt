@@ -1,5 +1,5 @@
 use Rattle.std.proofs.Common.{rules}
-use Rattle.line_format.proofs.Holding.{signed_sort, by_sort}
+use Rattle.line_format.proofs.KindTexts.{signed_sort, by_sort}
 use Rattle.line_format.proofs.field_value.I64FieldValue.from_text.Goals as goal
 
 pub returns : goal.returns

@@ -3,7 +3,7 @@ use lib.Signed.{lt_z}
 use Rattle.std.proofs.lemmas.Int.{to_z-of_z}
 use Rattle.line_format.specs.SignedDigits.{of_number}
 use Rattle.line_format.specs.declared.signed_digits.SignedDigits.{SignedDigits}
-use Rattle.line_format.proofs.Holding.{signed_sort, signed_plain, signed_plain_is, signed_limits, has_room, written_as}
+use Rattle.line_format.proofs.KindTexts.{signed_sort, signed_plain, signed_plain_is, signed_limits, has_room, written_as}
 use Rattle.line_format.proofs.field_value.I64FieldValue.to_text.Goals as goal
 
 -- the text that the code makes is that of the number

@@ -1,5 +1,5 @@
 use Rattle.std.proofs.Common.{refl}
-use Rattle.line_format.proofs.Holding.{number_sort, by_sort}
+use Rattle.line_format.proofs.KindTexts.{number_sort, by_sort}
 use Rattle.line_format.proofs.field_value.U64FieldValue.from_text.Goals as goal
 
 pub returns : goal.returns

@@ -1,6 +1,6 @@
 use Rattle.std.proofs.Common.{arith}
 use Rattle.std.proofs.lemmas.Bool.{lt-ltb}
-use Rattle.line_format.proofs.Holding.{number_sort, has_room, written_as}
+use Rattle.line_format.proofs.KindTexts.{number_sort, has_room, written_as}
 use Rattle.line_format.proofs.field_value.U64FieldValue.to_text.Goals as goal
 
 pub invariant_of-result : goal.invariant_of-result

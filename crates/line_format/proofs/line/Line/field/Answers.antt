@@ -1,5 +1,5 @@
 use Rattle.line_format.specs.Segment.{bytes_before}
-use Rattle.line_format.proofs.Pieces.{field_read}
+use Rattle.line_format.proofs.LineSegments.{field_read}
 use Rattle.line_format.proofs.line.Line.field.Goals as goal
 
 pub returns : goal.returns

@@ -5,7 +5,7 @@ use Rattle.line_format.specs.Segment.{segment, HoldsValue, none, next}
 use Rattle.line_format.specs.declared.tag.Tag.TheVariants.{Read}
 use Rattle.line_format.proofs.Exits.{at_exit}
 use Rattle.line_format.specs.Line.{ReadsContents}
-use Rattle.line_format.proofs.Pieces.{at, past}
+use Rattle.line_format.proofs.LineSegments.{at, past}
 use Rattle.line_format.proofs.line.Line.reading.Goals as goal
 
 pub returns-in_err-point : goal.returns-in_err-point

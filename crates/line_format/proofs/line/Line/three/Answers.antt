@@ -1,6 +1,6 @@
 use Rattle.line_format.proofs.Exits.{at_exit}
 use Rattle.line_format.specs.Segment.{ReadsThree}
-use Rattle.line_format.proofs.Pieces.{at, past}
+use Rattle.line_format.proofs.LineSegments.{at, past}
 use Rattle.line_format.proofs.line.Line.three.Goals as goal
 
 pub returns-in_err-first : goal.returns-in_err-first

@@ -1,6 +1,6 @@
 use Rattle.line_format.proofs.Exits.{at_exit}
 use Rattle.line_format.specs.Segment.{ReadsUnusedRest}
-use Rattle.line_format.proofs.Pieces.{at, rest_read}
+use Rattle.line_format.proofs.LineSegments.{at, rest_read}
 use Rattle.line_format.proofs.line.Line.unused_rest.Goals as goal
 
 pub returns-in_err-field : goal.returns-in_err-field

@@ -2,7 +2,7 @@ use Rattle.std.proofs.Common.{length, refl, ap, ◌∙◌}
 use Rattle.line_format.specs.Columns.{InvertsWriting}
 use Rattle.line_format.specs.SignedDigits.{text_fits, text_columns}
 use Rattle.line_format.proofs.Exits.{at_exit}
-use Rattle.line_format.proofs.Scanning.{length_columns, cut_at, scan_found, scan_lost}
+use Rattle.line_format.proofs.FieldCuts.{length_columns, cut_at, scan_found, scan_lost}
 use Rattle.line_format.proofs.signed_digits.SignedDigits.scan.Goals as goal
 
 pub returns-then-columns-ne10 : goal.returns-then-columns-ne10

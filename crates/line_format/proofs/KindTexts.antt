@@ -14,9 +14,9 @@ use Rattle.line_format.specs.SignedDigits.{sign, columns_of, text_columns, text_
 use Rattle.line_format.specs.FieldValue.{ReadsText}
 use Rattle.line_format.specs.declared.signed_digits.SignedDigits.{SignedDigits}
 use Rattle.line_format.specs.declared.field_text.FieldText.{FieldText}
-use Rattle.line_format.proofs.Placing.{parts_of_fit}
+use Rattle.line_format.proofs.DigitColumns.{parts_of_fit}
 use Rattle.line_format.proofs.Decimal.{shown, digits_unique}
-use Rattle.line_format.proofs.Scanning.{length_columns, same_text}
+use Rattle.line_format.proofs.FieldCuts.{length_columns, same_text}
 
 -- what is written of a value that fits is the columns of a text of the sort, and each text of the sort is of such a value
 pub record Sort (k : Kind) (sort : SignedDigits → Bool) (value : SignedDigits → Value k) (text : Value k → SignedDigits) : Type 0 where
@@ -61,8 +61,8 @@ module _ {k : Kind} {sort : SignedDigits → Bool} {value : SignedDigits → Val
   pub ten_columns : (x : Value k) → T (fits k x) → length (columns k x) ≡ 10
   ten_columns x h = ap length (s.written x h) ∙ length_columns (text x) (s.room x h)
 
-  pub told_by_columns : (x y : Value k) → T (fits k x) → T (fits k y) → columns k x ≡ columns k y → x ≡ y
-  told_by_columns x y h j e =
+  pub same_from_columns : (x y : Value k) → T (fits k x) → T (fits k y) → columns k x ≡ columns k y → x ≡ y
+  same_from_columns x y h j e =
       let same : text x ≡ text y = same_text (text x) (text y) (s.room x h) (s.room y j) (sym (s.written x h) ∙ e ∙ s.written y j) in
       sym (s.back x) ∙ ap value same ∙ s.back y
 

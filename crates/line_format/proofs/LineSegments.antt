@@ -1,4 +1,4 @@
--- The parts of a line, read one by one. Assumes nothing.
+-- The segments of a line, read one by one. Assumes nothing.
 use Rattle.std.proofs.Common.{◌≡◌, ℕ, ◌+◌, ◌-◌, Bool, true, false, ◌&&◌, T, eqb, List, [], ◌∷◌, ◌++◌, length, get_or, take, drop, Ok, Err, Result, sym, ap, ◌∙◌, subst, append_assoc, add-zero, add_assoc, arith}
 use Rattle.std.specs.List.{flat_map}
 use Rattle.std.proofs.lemmas.List.{take-append-drop, drop-drop, drop_more, drop_all}
@@ -23,7 +23,7 @@ T_and : (x y : Bool) → T x → T y → T (x && y)
 T_and true y p q = q
 T_and false y p q = p
 
--- a part at fault, and one further right than a good one
+-- a segment at fault, and one further right than a good one
 pub at : {p : Segment} {ps : List Segment} {f : Fault} → IsMalformed (p ∷ []) f → IsMalformed (p ∷ ps) f
 at {p} {ps} {f} m = record { refusal = m.refusal; column = first m.column }
 
@@ -31,29 +31,29 @@ pub past : {p : Segment} {x : Value p.kind} {ps : List Segment} {f : Fault} → 
 past {p} {x} s m = record { refusal = m.refusal; column = further (x, s.fit, s.written) m.column }
 
 -- what is read of a part's bytes, with its column, is read of the part
-pub part_read_as : {X : Type 0} (p : Segment) (value_of : X → Value p.kind) (bytes : List ℕ) (c : ℕ) (q : Result X Refusal) (r : Result X Fault) → bytes ≡ p.bytes → c ≡ p.column → ReadsField p.kind value_of bytes q → r ≡ at_column c q → ReadsSegmentAs p value_of r
-part_read_as p value_of bytes c (Ok x) r same start read e =
+pub segment_read_as : {X : Type 0} (p : Segment) (value_of : X → Value p.kind) (bytes : List ℕ) (c : ℕ) (q : Result X Refusal) (r : Result X Fault) → bytes ≡ p.bytes → c ≡ p.column → ReadsField p.kind value_of bytes q → r ≡ at_column c q → ReadsSegmentAs p value_of r
+segment_read_as p value_of bytes c (Ok x) r same start read e =
     subst (ReadsSegmentAs p value_of) (sym e) (record { fit = read.0; written = sym same ∙ read.1 })
-part_read_as p value_of bytes c (Err f) r same start read e =
+segment_read_as p value_of bytes c (Err f) r same start read e =
     subst (ReadsSegmentAs p value_of) (sym e) (record { refusal = read.0; column = here start (λ good. read.1 good.0 good.1 (same ∙ good.2)) })
 
 -- the same of a field of ten columns
 pub field_read : {X : Type 0} (k : Kind) (value_of : X → Value k) → width k ≡ 10 → (line : List ℕ) (start : ℕ) (bytes : List ℕ) (c : ℕ) (q : Result X Refusal) (r : Result X Fault) → bytes ≡ take 10 (drop start line) → c ≡ start + 1 → ReadsField k value_of bytes q → r ≡ at_column c q → ReadsSegmentAs (segment k start line) value_of r
 field_read k value_of ten line start bytes c q r same column read e =
-    part_read_as (segment k start line) value_of bytes c q r (same ∙ ap (λ n. take n (drop start line)) (sym ten)) column read e
+    segment_read_as (segment k start line) value_of bytes c q r (same ∙ ap (λ n. take n (drop start line)) (sym ten)) column read e
 
 -- the same where the value is what it holds
 read_as_itself : (k : Kind) (bytes : List ℕ) (q : Result (Value k) Refusal) → InvertsWriting (fits k) (columns k) bytes q → ReadsField k (λ x. x) bytes q
 read_as_itself k bytes (Ok x) read = read
 read_as_itself k bytes (Err e) read = read
 
-pub part_read : (p : Segment) (bytes : List ℕ) (c : ℕ) (q : Result (Value p.kind) Refusal) (r : Result (Value p.kind) Fault) → bytes ≡ p.bytes → c ≡ p.column → InvertsWriting (fits p.kind) (columns p.kind) bytes q → r ≡ at_column c q → ReadsSegment p r
-part_read p bytes c q r same start read e =
-    part_read_as p (λ x. x) bytes c q r same start (read_as_itself p.kind bytes q read) e
+pub segment_read : (p : Segment) (bytes : List ℕ) (c : ℕ) (q : Result (Value p.kind) Refusal) (r : Result (Value p.kind) Fault) → bytes ≡ p.bytes → c ≡ p.column → InvertsWriting (fits p.kind) (columns p.kind) bytes q → r ≡ at_column c q → ReadsSegment p r
+segment_read p bytes c q r same start read e =
+    segment_read_as p (λ x. x) bytes c q r same start (read_as_itself p.kind bytes q read) e
 
 -- the letter's column
-pub letter_piece : (line : List ℕ) → length line ≡ 46 → get_or line 44 0 ∷ [] ≡ take 1 (drop 44 line)
-letter_piece line h = ap (take 1) (sym (drop_more line 44 0 (omega arith)))
+pub letter_segment : (line : List ℕ) → length line ≡ 46 → get_or line 44 0 ∷ [] ≡ take 1 (drop 44 line)
+letter_segment line h = ap (take 1) (sym (drop_more line 44 0 (omega arith)))
 
 -- the bytes from n on, cut behind the next k
 cut : (line : List ℕ) (n k : ℕ) (xs : List ℕ) → take k (drop n line) ≡ xs → drop n line ≡ xs ++ drop (n + k) line
@@ -74,7 +74,7 @@ stand_join {line} {n} (next {k = k} {x = x} {cs = cs} s rest) =
     let more = stand_join rest in
     cut line n (width k) (columns k x) s.written ∙ rw (more, append_assoc, add_assoc)
 
--- a whole line is its tag, its cells and a line feed
+-- a whole line is its tag, its contents and a line feed
 pub assembled : (t : Tag) (line : List ℕ) {cs : List Content} → is_line line ≡ true → take 4 line ≡ tag_bytes t → HoldsContents line 4 cs → widths cs ≡ 41 → T (all_fit cs) × (line ≡ line_bytes t cs)
 assembled t line {cs} h tag s w =
     let p = and_parts (eqb (length line) 46) (ends_with_line_feed line) h in

@@ -4,7 +4,7 @@ use Rattle.std.specs.List.{flat_map}
 use Rattle.std.proofs.lemmas.Bool.{and_left, and_right, and_from, and_parts, cond-false}
 use Rattle.std.proofs.lemmas.Grind.{flat_map-append}
 use Rattle.std.proofs.lemmas.List.{append-nil, take_more, take_all}
-use Rattle.terms.specs.Answers.{Answers}
+use Rattle.terms.specs.Answers.{Answers, accepted_since, refused_since}
 use Rattle.terms.specs.Numbers.{number_of}
 use Rattle.terms.specs.declared.refusal.Refusal.{Refusal}
 use Rattle.line_format.specs.Kind.{fits, columns}
@@ -15,15 +15,7 @@ use Rattle.line_format.specs.Tag.{tag_bytes}
 use Rattle.line_format.specs.declared.tag.Tag.{Tag}
 use Rattle.line_format.specs.declared.record.Record.{Record}
 
-accepted : {X : Type 0} (x : X) (b : Bool) (v : X) (n : ℕ) → Answers (Ok x) b v n → (b ≡ true) × (x ≡ v)
-accepted x true v n p = (refl, p)
-accepted x false v n p = absurd p
-
-turned_down : {X : Type 0} (e : Refusal) (b : Bool) (v : X) (n : ℕ) → Answers (Err e) b v n → (b ≡ false) × (number_of e ≡ n)
-turned_down e true v n p = absurd p
-turned_down e false v n p = (refl, p)
-
--- cells fit where they fit in two parts, and do not where one does not
+-- contents fit where they fit in two parts, and do not where one does not
 fit_join : (cs ds : List Content) → all_fit cs ≡ true → all_fit ds ≡ true → all_fit (cs ++ ds) ≡ true
 fit_join [] ds p q = q
 fit_join (c ∷ cs) ds p q =
@@ -35,7 +27,7 @@ unfit_field [] i rest h u = absurd (omega arith)
 unfit_field (c ∷ cs) zero rest h u = and_left _ _ u
 unfit_field (c ∷ cs) (suc i) rest h u = and_right (fits c.kind c.value) _ (unfit_field cs i rest (omega arith) u)
 
--- there are as many fields as cells, and each is written of its own
+-- there are as many fields as contents, and each is written of its own
 pub length_fields : (cs : List Content) (rs : List (Result (List ℕ) Refusal)) → WritesFields cs rs → length cs ≡ length rs
 length_fields [] [] w = refl
 length_fields [] (r ∷ rs) w = absurd w
@@ -49,30 +41,30 @@ field_written (c ∷ cs) [] i d h w = absurd w
 field_written (c ∷ cs) (r ∷ rs) zero d h w = w.0
 field_written (c ∷ cs) (r ∷ rs) (suc i) d h w = field_written cs rs i d (omega arith) w.1
 
--- the columns of cells, one behind the other
-abbrev cells_joined : List Content → List ℕ
-cells_joined cs = flat_map (λ c. columns c.kind c.value) cs
+-- the columns of contents, one behind the other
+abbrev contents_joined : List Content → List ℕ
+contents_joined cs = flat_map (λ c. columns c.kind c.value) cs
 
 -- a tag, and fields behind it
 abbrev pub front : Tag → List Content → List ℕ
-front t cs = tag_bytes t ++ cells_joined cs
+front t cs = tag_bytes t ++ contents_joined cs
 
 -- the first bytes of a line are its tag and so many of its fields
-pub record Begun (t : Tag) (cs : List Content) (at : ℕ) (line : List ℕ) : Type 0 where
+pub record HasFront (t : Tag) (cs : List Content) (at : ℕ) (line : List ℕ) : Type 0 where
   pub within : at ≤ length cs
   pub fit : all_fit (take at cs) ≡ true
   pub bytes : take (4 + 10 * at) line ≡ front t (take at cs)
 
-pub begun : (t : Tag) (cs : List Content) (tag line old : List ℕ) → tag ≡ tag_bytes t → length tag ≡ 4 → take (0 + length tag) line ≡ take 0 old ++ tag → Begun t cs 0 line
-begun t cs tag line old same four put =
+pub front_of_tag : (t : Tag) (cs : List Content) (tag line old : List ℕ) → tag ≡ tag_bytes t → length tag ≡ 4 → take (0 + length tag) line ≡ take 0 old ++ tag → HasFront t cs 0 line
+front_of_tag t cs tag line old same four put =
     let first : take 4 line ≡ tag = rw four at put in
     record { within = omega arith; fit = refl; bytes = first ∙ same ∙ sym (append-nil (tag_bytes t)) }
 
-pub one_more : (t : Tag) (cs : List Content) (at : ℕ) (part line old : List ℕ) → at < length cs → length part ≡ 10 → WritesField (get_or cs at blank_field) (Ok part) → Begun t cs at old → take (4 + 10 * at + length part) line ≡ take (4 + 10 * at) old ++ part → Begun t cs (at + 1) line
-one_more t cs at part line old h ten w b put =
+pub front_of_field : (t : Tag) (cs : List Content) (at : ℕ) (part line old : List ℕ) → at < length cs → length part ≡ 10 → WritesField (get_or cs at blank_field) (Ok part) → HasFront t cs at old → take (4 + 10 * at + length part) line ≡ take (4 + 10 * at) old ++ part → HasFront t cs (at + 1) line
+front_of_field t cs at part line old h ten w b put =
     let c : Content = get_or cs at blank_field in
     let more : take (at + 1) cs ≡ take at cs ++ (c ∷ []) = take_more cs at blank_field h in
-    let w' = accepted part _ _ 3 w in
+    let w' = accepted_since part _ _ 3 w in
     let same = w'.1 in
     let fit : all_fit (take at cs ++ (c ∷ [])) ≡ true = fit_join (take at cs) (c ∷ []) b.fit (and_from _ _ w'.0 refl) in
     let front_more : front t (take (at + 1) cs) ≡ front t (take at cs) ++ part = rw (more, flat_map-append, same) (simp (append_assoc, append-nil)) in
@@ -93,7 +85,7 @@ letter_fits (Some t) = refl
 letter_fits None = refl
 
 -- a line whose fields are all written
-pub line_written : (t : Tag) (cs : List Content) (o : Option ReadingType) (at : ℕ) (e : ℕ) (line old : List ℕ) → length line ≡ 46 → at ≡ 4 → length cs ≡ 4 → Begun t cs at old → e ∷ [] ≡ columns (letter_content o).kind (letter_content o).value → take 46 line ≡ take 44 old ++ (e ∷ 10 ∷ []) → Answers (Ok line) (all_fit (cs ++ letter_content o ∷ [])) (line_bytes t (cs ++ letter_content o ∷ [])) 3
+pub line_written : (t : Tag) (cs : List Content) (o : Option ReadingType) (at : ℕ) (e : ℕ) (line old : List ℕ) → length line ≡ 46 → at ≡ 4 → length cs ≡ 4 → HasFront t cs at old → e ∷ [] ≡ columns (letter_content o).kind (letter_content o).value → take 46 line ≡ take 44 old ++ (e ∷ 10 ∷ []) → Answers (Ok line) (all_fit (cs ++ letter_content o ∷ [])) (line_bytes t (cs ++ letter_content o ∷ [])) 3
 line_written t cs o at e line old long last four b letter put =
     let all : take at cs ≡ cs = take_all at cs (omega arith) in
     let full : 4 + 10 * at ≡ 44 = omega arith in
@@ -108,12 +100,12 @@ line_written t cs o at e line old long last four b letter put =
 -- a field that does not fit refuses the line
 pub field_unfit : (t : Tag) (cs : List Content) (o : Option ReadingType) (at : ℕ) (e : Refusal) → at < length cs → WritesField (get_or cs at blank_field) (Err e) → Answers (Err e) (all_fit (cs ++ letter_content o ∷ [])) (line_bytes t (cs ++ letter_content o ∷ [])) 3
 field_unfit t cs o at e h q =
-    let down = turned_down e _ _ 3 q in
+    let down = refused_since e _ _ 3 q in
     let unfit : all_fit (cs ++ letter_content o ∷ []) ≡ false = unfit_field cs at (letter_content o ∷ []) h down.0 in
     subst (λ x. Answers (Err e) x (line_bytes t (cs ++ letter_content o ∷ [])) 3) (sym unfit) down.1
 
 -- and the buffer is as it was
 pub unfit_unwritten : (x : Record) (buffer : List ℕ) (e : Refusal) → Answers (Err e) (record_fits x) (record_bytes x) 3 → WritesRecord x buffer buffer (Err e)
 unfit_unwritten x buffer e q =
-    let down = turned_down e (record_fits x) (record_bytes x) 3 q in
+    let down = refused_since e (record_fits x) _ 3 q in
     (down.1 ∙ sym (cond-false (record_fits x) 15 3 down.0), λ h. absurd (subst T down.0 h), refl)

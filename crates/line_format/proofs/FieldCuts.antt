@@ -10,7 +10,7 @@ use Rattle.line_format.specs.SignedDigits.{sign, columns_of, text_columns, text_
 use Rattle.line_format.specs.declared.signed_digits.SignedDigits.{SignedDigits}
 use Rattle.line_format.proofs.Digits.{length_kept, same_from_kept}
 use Rattle.line_format.proofs.Spaces.{spaces_apart}
-use Rattle.line_format.proofs.Placing.{parts_of_fit}
+use Rattle.line_format.proofs.DigitColumns.{parts_of_fit}
 
 -- how wide a sign is
 abbrev pub width : Bool → ℕ
