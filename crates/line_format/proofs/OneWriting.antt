@@ -4,7 +4,7 @@ use mathlib.Core.List.{head-eq_of_cons-eq, tail-eq_of_cons-eq}
 use Rattle.std.specs.List.{flat_map}
 use Rattle.std.proofs.lemmas.List.{take_at, drop_at, drop-drop, length_push, get_or_push}
 use Rattle.std.proofs.lemmas.Bool.{both_ways, and_from, eq-eqb}
-use Rattle.line_format.specs.Kind.{Kind, Value, width, fits, columns, number, signed, date, blank, reading_type, no_letter}
+use Rattle.line_format.specs.Kind.{Kind, Value, width, fits, columns, number, signed, date, reading_type}
 use Rattle.terms.specs.declared.reading_type.ReadingType.{ReadingType}
 use Rattle.terms.specs.declared.reading_type.ReadingType.TheVariants.{Actual}
 use Rattle.line_format.proofs.KindLaws.{length_columns, value_from_columns}

@@ -5,7 +5,7 @@ use Rattle.allocation.specs.Loads.{largest_gate, largest_unaccounted}
 use Rattle.calendar.specs.Digits.{is_date, day_number_of}
 use Rattle.estimates.specs.Factors.{greatest_base_load, greatest_sensitivity}
 use Rattle.estimators.specs.Limits.{greatest_count}
-use Rattle.line_format.specs.Kind.{Kind, Value, number, signed, date, blank, reading_type, no_letter}
+use Rattle.line_format.specs.Kind.{Kind, Value, number, signed, date}
 use Rattle.line_format.specs.OtherLimits.{largest_energy, largest_interval, meters, retailers}
 use Rattle.line_format.specs.Record.{Content, contents, tag_of}
 use Rattle.line_format.specs.declared.limits.Limits.{Limits}

@@ -7,7 +7,8 @@ use thiserror::Error;
 /// Lines are numbered from 1 to this, a number of ten digits, which all later lines share.
 pub const LAST_LINE_NUMBER: u64 = 9_999_999_999;
 
-/// Why a line is refused, and at which column, counted from 1: the first of the leftmost part at fault.
+/// Why a line is refused, and at which column, counted from 1: the first of the leftmost part at
+/// fault.
 #[derive(Clone, Copy, PartialEq, Eq, Debug, Error)]
 #[error("refusal {}, column {column}", .refusal.number())]
 pub struct Fault {
@@ -17,7 +18,8 @@ pub struct Fault {
     pub column: u8,
 }
 
-/// A fault with the number of its line, and with the layer that met it, which follows from the refusal.
+/// A fault with the number of its line, and with the layer that met it, which follows from the
+/// refusal.
 #[derive(Clone, Copy, PartialEq, Eq, Debug, Error)]
 #[error("line {line}: layer {}, refusal {}, column {column}", .layer.number(), .refusal.number())]
 pub struct LineFault {
@@ -38,7 +40,8 @@ pub(crate) fn at_column<X>(column: u8, value: Result<X, Refusal>) -> Result<X, F
     value.map_err(|refusal| Fault { refusal, column })
 }
 
-/// The answer to the line of a number, counted from 1: a fault is told with that number and its layer.
+/// The answer to the line of a number, counted from 1: a fault is told with that number and its
+/// layer.
 pub fn on_line<X: Drop>(line: u64, answer: Result<X, Fault>) -> Result<X, LineFault>
     ensures { result ≡ on_line line answer }
 {

@@ -3,8 +3,8 @@ ghost use Rattle.line_format.specs.SignedDigits.{text_fits, text_columns, has_no
 
 use super::signed_digits::SignedDigits;
 
-/// The text of a field of ten columns behind its leading spaces, as it was read or is to be written: its digits
-/// suffice for its number, and with its minus they are ten at most.
+/// The text of a field of ten columns behind its leading spaces, as it was read or is to be
+/// written: its digits suffice for its number, and with its minus they are ten at most.
 #[derive(Clone, Copy, PartialEq, Eq, Debug)]
 pub struct FieldText {
     pub(crate) text: SignedDigits,

@@ -32,8 +32,8 @@ pub(crate) trait FieldValue: Sized {
 
     ghost ten_columns: { width kind ≡ 10 };
 
-    // The value in a field, from its ten columns. Refuses as malformed (1) where none stands there, columns of
-    // another number among them.
+    // The value in a field, from its ten columns. Refuses as malformed (1) where none stands there,
+    // columns of another number among them.
     final fn read(columns: &[u8]) -> Result<Self, Refusal>
         ensures { ReadsField kind value_of columns.now result }
     {

@@ -18,7 +18,8 @@ pub(crate) fn letter_of(reading_type: ReadingType) -> u8
     char::from(reading_type) as u8
 }
 
-// The letter's column where the tag has no letter: a space. Refuses any other byte as malformed (1).
+// The letter's column where the tag has no letter: a space. Refuses any other byte as malformed
+// (1).
 pub(crate) fn read_no_letter(letter: u8) -> Result<(), Refusal>
     ensures { InvertsWriting (λ _. true) (λ _. 32 ∷ []) (letter ∷ []) result }
 {

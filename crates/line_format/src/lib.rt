@@ -1,14 +1,15 @@
-//! Lines of 45 bytes and a line feed: which record each says, how a record is written, and whether its numbers are
-//! within their limits and its dates exist.
+//! Lines of 45 bytes and a line feed: which record each says, how a record is written, and whether
+//! its numbers are within their limits and its dates exist.
 //!
-//! A line has a tag of four capitals, four fields of ten columns and the column of a letter. It is proved of every line
-//! and every record that
+//! A line has a tag of four capitals, four fields of ten columns and the column of a letter. It is
+//! proved of every line and every record that
 //!
-//! - bytes of any number are read as a record or refused at one column at fault, and no other column is at fault;
-//! - what is written of a record is read as that record, and what is read as a record is, byte for byte, what is written
-//!   of it, so no record has a second writing;
-//! - a record is refused exactly where a number is beyond its limits or else a date does not exist, at the first column
-//!   of the leftmost such field.
+//! - bytes of any number are read as a record or refused at one column at fault, and no other
+//!   column is at fault;
+//! - what is written of a record is read as that record, and what is read as a record is, byte for
+//!   byte, what is written of it, so no record has a second writing;
+//! - a record is refused exactly where a number is beyond its limits or else a date does not exist,
+//!   at the first column of the leftmost such field.
 #![tactic(auto)]
 
 mod blank;

@@ -48,8 +48,8 @@ fn ends_in_time(opening: &Opening) -> bool
     })
 }
 
-// Of each of the four fields, whether its number is within its limits, if it holds one. The first date of a book is
-// beyond them where the book would end too late.
+// Of each of the four fields, whether its number is within its limits, if it holds one. The first
+// date of a book is beyond them where the book would end too late.
 fn numbers_within(record: &Record, limits: Limits) -> [bool; 4]
     ensures { result ≡ numbers_within limits «record».now }
 {
@@ -139,15 +139,16 @@ fn passed(fields: [bool; 4], refusal: Refusal) -> Result<(), Fault>
     }
 }
 
-/// Refuses a record with a number beyond its limits as beyond limits (3), or else one with a date that does not exist as
-/// no such date (4), each at the first column of the leftmost such field.
+/// Refuses a record with a number beyond its limits as beyond limits (3), or else one with a date
+/// that does not exist as no such date (4), each at the first column of the leftmost such field.
 ///
-/// Days and points go from 1 to the most that are allowed, and a book whose first date exists and whose days are
-/// within limits ends on 30 December 2099 at the latest, else its first date is at fault. A share of unaccounted-for
-/// gas is at most 2,000 ten-thousandths, a base load 100,000,000 kJ a day, a sensitivity 1,000,000 kJ a degree day, an
-/// energy of a gate day 1,000,000,000 MJ, of an interval meter 100,000,000 MJ and of a reading 10,000,000 MJ, a count
-/// 20,000 hundredths of a degree day; retailers go from 1 to 16 and meters from 1 to 32. A negative energy is not
-/// judged here.
+/// Days and points go from 1 to the most that are allowed, and a book whose first date exists and
+/// whose days are within limits ends on 30 December 2099 at the latest, else its first date is at
+/// fault. A share of unaccounted-for gas is at most 2,000 ten-thousandths, a base load 100,000,000
+/// kJ a day, a sensitivity 1,000,000 kJ a degree day, an energy of a gate day 1,000,000,000 MJ, of
+/// an interval meter 100,000,000 MJ and of a reading 10,000,000 MJ, a count 20,000 hundredths of a
+/// degree day; retailers go from 1 to 16 and meters from 1 to 32. A negative energy is not judged
+/// here.
 pub fn check_limits(record: &Record, limits: Limits) -> Result<(), Fault>
     ensures { number_and_column result ≡ verdict limits «record».now }
 {

@@ -27,12 +27,14 @@ pub(crate) struct Line {
     ghost complete: { is_line bytes ≡ true },
 }
 
-// Refuses as malformed (1) bytes of another length or without the line feed, at the column past their end.
+// Refuses as malformed (1) bytes of another length or without the line feed, at the column past
+// their end.
 impl TryFrom<&[u8]> for Line {
     type Error = Fault;
 
     ghost try_from_gives = { λ bytes r. MatchResult r (λ line. line.bytes ≡ bytes.now)
-        (λ f. (number_of f.refusal ≡ 1) × (f.column ≡ column_past_end bytes.now) × (is_line bytes.now ≡ false)) };
+        (λ f. (number_of f.refusal ≡ 1) × (f.column ≡ column_past_end bytes.now)
+        × (is_line bytes.now ≡ false)) };
 
     fn try_from(bytes: &[u8]) -> Result<Line, Fault> {
         match <[u8; 46]>::try_from(bytes) {
@@ -53,21 +55,25 @@ impl Line {
         at_column(1, Tag::try_from(&self.bytes[0..4]))
     }
 
-    // The value in a field of the line. Refuses the field as malformed (1) at its first column where none stands there.
+    // The value in a field of the line. Refuses the field as malformed (1) at its first column
+    // where none stands there.
     fn field<X: FieldValue>(&self, field: Field) -> Result<X, Fault>
-        ensures { ReadsSegmentAs (segment X.kind (bytes_before field) self.now.bytes) X.value_of result }
+        ensures { ReadsSegmentAs (segment X.kind (bytes_before field) self.now.bytes)
+            X.value_of result }
     {
         at_column(field.column(), X::read(field.columns(&self.bytes)))
     }
 
-    // The type of reading in the letter's column. Refuses any other byte as malformed (1) at column 45.
+    // The type of reading in the letter's column. Refuses any other byte as malformed (1) at column
+    // 45.
     fn letter(&self) -> Result<ReadingType, Fault>
         ensures { ReadsSegment (segment reading_type 44 self.now.bytes) result }
     {
         at_column(45, type_of_letter(self.bytes[44]))
     }
 
-    // The letter's column of a line without a letter. Refuses what is no space as malformed (1) at column 45.
+    // The letter's column of a line without a letter. Refuses what is no space as malformed (1) at
+    // column 45.
     fn no_letter(&self) -> Result<(), Fault>
         ensures { ReadsSegment (segment no_letter 44 self.now.bytes) result }
     {
@@ -86,7 +92,8 @@ impl Line {
     fn three<X: FieldValue + Drop, Y: FieldValue + Drop, Z: FieldValue + Drop>(
         &self,
     ) -> Result<(X, Y, Z), Fault>
-        ensures { ReadsThree X.kind Y.kind Z.kind X.value_of Y.value_of Z.value_of self.now.bytes result }
+        ensures { ReadsThree X.kind Y.kind Z.kind
+            X.value_of Y.value_of Z.value_of self.now.bytes result }
     {
         let first = self.field(Field::First)?;
         let second = self.field(Field::Second)?;
@@ -214,9 +221,10 @@ fn column_past_end(bytes: &[u8]) -> u8
 
 /// The record that a line says, from its bytes of any number, its line feed among them.
 ///
-/// Refuses as malformed (1), at the column at fault: bytes that are not 45 and a line feed at the one past their end, 46
-/// at most; an unknown tag at column 1; else the leftmost field or letter that is not what the tag asks for, at its
-/// first column. What is read is, byte for byte, what writing the record gives, so no record has a second writing.
+/// Refuses as malformed (1), at the column at fault: bytes that are not 45 and a line feed at the
+/// one past their end, 46 at most; an unknown tag at column 1; else the leftmost field or letter
+/// that is not what the tag asks for, at its first column. What is read is, byte for byte, what
+/// writing the record gives, so no record has a second writing.
 pub fn read_line(bytes: &[u8]) -> Result<Record, Fault>
     ensures read { ReadsLine bytes.now result }
     ensures reads_back { ReadsBack bytes.now result }
@@ -236,16 +244,17 @@ fn record_within_limits(bytes: &[u8], limits: Limits) -> Result<Record, Fault>
     Ok(record)
 }
 
-/// The record that the line of a number says, from its bytes of any number, its line feed among them. Refuses what
-/// `read_line` refuses, and then what `check_limits` does: malformed (1), beyond limits (3), no such date (4).
+/// The record that the line of a number says, from its bytes of any number, its line feed among
+/// them. Refuses what `read_line` refuses, and then what `check_limits` does: malformed (1), beyond
+/// limits (3), no such date (4).
 pub fn check_line(line: u64, bytes: &[u8], limits: Limits) -> Result<Record, LineFault>
     ensures { ChecksLine line bytes.now limits result }
 {
     on_line(line, record_within_limits(bytes, limits))
 }
 
-/// Writes a record and reads what was written: the same record. Refuses as beyond limits (3) a record of which a value
-/// does not fit its columns.
+/// Writes a record and reads what was written: the same record. Refuses as beyond limits (3) a
+/// record of which a value does not fit its columns.
 pub fn read_back(record: &Record) -> Result<Record, Refusal>
     ensures { Answers result (record_fits «record».now) «record».now 3 }
 {
@@ -254,7 +263,8 @@ pub fn read_back(record: &Record) -> Result<Record, Refusal>
     Ok(read_line(&line).unwrap())
 }
 
-/// Reads a line and writes what was read: the record, and the same 46 bytes. Refuses what `read_line` refuses.
+/// Reads a line and writes what was read: the record, and the same 46 bytes. Refuses what
+/// `read_line` refuses.
 pub fn write_again(bytes: &[u8]) -> Result<(Record, [u8; 46]), Fault>
     ensures { WritesAgain bytes.now result }
 {

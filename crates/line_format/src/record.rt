@@ -108,7 +108,8 @@ pub enum Record {
 }
 
 impl Record {
-    // The 46 bytes of the record's line. Refuses as beyond limits (3) where a value does not fit its columns.
+    // The 46 bytes of the record's line. Refuses as beyond limits (3) where a value does not fit
+    // its columns.
     fn line(&self) -> Result<[u8; 46], Refusal>
         ensures { WritesLine (tag_of self.now) (contents self.now) result }
     {
@@ -202,8 +203,8 @@ fn letter_byte(letter: Option<ReadingType>) -> u8
     letter.map_or(b' ', |reading_type| letter_of(reading_type))
 }
 
-// The line of a tag, its four fields as they were written, and its letter. Refuses as beyond limits (3) where a value
-// did not fit its field.
+// The line of a tag, its four fields as they were written, and its letter. Refuses as beyond limits
+// (3) where a value did not fit its field.
 fn joined_line(
     tag: Tag,
     fields: &[Result<[u8; 10], Refusal>; 4],
@@ -221,11 +222,13 @@ fn joined_line(
     Ok(line)
 }
 
-/// Writes the 46 bytes of a record's line, its line feed among them, to the start of a buffer; bytes beyond them stay.
-/// Refuses as beyond limits (3) where a value does not fit its columns, and then as too short a list (15) a buffer of
-/// fewer than 46 bytes; a refusal leaves the buffer as it was.
+/// Writes the 46 bytes of a record's line, its line feed among them, to the start of a buffer;
+/// bytes beyond them stay. Refuses as beyond limits (3) where a value does not fit its columns, and
+/// then as too short a list (15) a buffer of fewer than 46 bytes; a refusal leaves the buffer as it
+/// was.
 ///
-/// A number fits from 0 to 9,999,999,999, a reading's energy from -999,999,999, a date up to 99,999,999.
+/// A number fits from 0 to 9,999,999,999, a reading's energy from -999,999,999, a date up to
+/// 99,999,999.
 pub fn write_record(record: &Record, buffer: &mut [u8]) -> Result<(), Refusal>
     ensures { WritesRecord «record».now buffer.old buffer.new result }
 {

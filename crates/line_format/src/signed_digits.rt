@@ -4,8 +4,8 @@ ghost use Rattle.line_format.specs.SignedDigits.{text_fits, text_columns, of_num
 
 use terms::Refusal;
 
-// What stands in a field behind its leading spaces: digits, perhaps after a minus. The number that they write has its
-// sign beside it, since minus zero is written otherwise than zero.
+// What stands in a field behind its leading spaces: digits, perhaps after a minus. The number that
+// they write has its sign beside it, since minus zero is written otherwise than zero.
 #[derive(Clone, Copy, PartialEq, Eq, Debug)]
 pub(crate) struct SignedDigits {
     pub(crate) minus: bool,
@@ -43,7 +43,8 @@ fn digit_count(value: u64) -> usize
 // The number that digits write. Refuses as malformed (1) where a byte is no digit.
 fn digits_value(bytes: &[u8]) -> Result<u64, Refusal>
     requires { length bytes.now ≤ 10 }
-    ensures { InvertsWriting (λ v. nat_lt v (10 ^ length bytes.now)) (last_digits (length bytes.now)) bytes.now result }
+    ensures { InvertsWriting (λ v. nat_lt v (10 ^ length bytes.now))
+        (last_digits (length bytes.now)) bytes.now result }
 {
     let mut value: u64 = 0;
     for byte in bytes {
@@ -56,8 +57,8 @@ fn digits_value(bytes: &[u8]) -> Result<u64, Refusal>
 }
 
 impl SignedDigits {
-    // What stands in a field, from its ten columns: spaces, perhaps a minus, and digits to the end. Refuses as
-    // malformed (1) anything else, columns of another number among them.
+    // What stands in a field, from its ten columns: spaces, perhaps a minus, and digits to the end.
+    // Refuses as malformed (1) anything else, columns of another number among them.
     pub(crate) fn scan(columns: &[u8]) -> Result<SignedDigits, Refusal>
         ensures { InvertsWriting text_fits text_columns columns.now result }
     {

@@ -1,5 +1,5 @@
-//! Tests of `line_format`: lines good and damaged in every part of every tag, and what each is answered; what each record
-//! is read as, and how records are written.
+//! Tests of `line_format`: lines good and damaged in every part of every tag, and what each is
+//! answered; what each record is read as, and how records are written.
 #![tactic(auto)]
 
 #[cfg(test)]

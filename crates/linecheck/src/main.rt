@@ -1,5 +1,5 @@
-//! Reads lines on standard input and prints what each says, or its number, layer, refusal and column. A book has at most
-//! 62 days and 32 points.
+//! Reads lines on standard input and prints what each says, or its number, layer, refusal and
+//! column. A book has at most 62 days and 32 points.
 #![tactic(auto)]
 
 mod record_text;
