@@ -81,14 +81,16 @@ exists_if_date _ _ = true
 abbrev pub dates_exist : Record → List Bool
 dates_exist r = map (λ c. exists_if_date c.kind c.value) (take 4 (contents r))
 
--- fields of ten columns from column c on: the first column of the leftmost that does not pass, with a refusal's number
-abbrev pub leftmost : ℕ → ℕ → List Bool → Option (ℕ × ℕ)
-leftmost n c [] = None
-leftmost n c (b ∷ bs) = if b then leftmost n (c + 10) bs else Some (n, c)
+-- of fields of ten columns from column c on, the first column of the leftmost that does not pass,
+-- with the number that refuses it
+abbrev pub leftmost_refusal : ℕ → ℕ → List Bool → Option (ℕ × ℕ)
+leftmost_refusal n c [] = None
+leftmost_refusal n c (b ∷ bs) = if b then leftmost_refusal n (c + 10) bs else Some (n, c)
 
-abbrev pub refused_by : ℕ → List Bool → Option (ℕ × ℕ)
-refused_by n fields = leftmost n 5 fields
+-- of the four fields of a line
+abbrev pub field_refusal : ℕ → List Bool → Option (ℕ × ℕ)
+field_refusal n fields = leftmost_refusal n 5 fields
 
 -- a number beyond its limits refuses a record as 3, else a date that does not exist as 4
 abbrev pub verdict : Limits → Record → Option (ℕ × ℕ)
-verdict l r = option_or (refused_by 3 (numbers_within l r)) (refused_by 4 (dates_exist r))
+verdict l r = option_or (field_refusal 3 (numbers_within l r)) (field_refusal 4 (dates_exist r))

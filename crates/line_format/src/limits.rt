@@ -1,7 +1,7 @@
 ghost use Rattle.std.specs.Prelude.{◌≡◌, ◌+◌, ◌&&◌, Some, nat_le};
 ghost use Rattle.calendar.specs.Digits.{is_date};
 ghost use Rattle.terms.specs.Numbers.{number_of};
-ghost use Rattle.line_format.specs.Limits.{ends_in_time, dates_exist, refused_by, verdict, numbers_within};
+ghost use Rattle.line_format.specs.Limits.{ends_in_time, dates_exist, field_refusal, verdict, numbers_within};
 ghost use Rattle.line_format.specs.Fault.{number_and_column};
 ghost use Rattle.line_format.specs.Segment.{bytes_before};
 
@@ -26,14 +26,14 @@ pub struct Limits {
 }
 
 // Whether a number lies in a range, its ends among it.
-fn within(value: u64, least: u64, most: u64) -> bool
+fn is_within(value: u64, least: u64, most: u64) -> bool
     ensures { result ≡ nat_le least value && nat_le value most }
 {
     (least..=most).contains(&value)
 }
 
 // Whether there is such a date.
-fn exists(date: u32) -> bool
+fn date_exists(date: u32) -> bool
     ensures { result ≡ is_date date }
 {
     day_number_of(date).is_ok()
@@ -57,43 +57,43 @@ fn numbers_within(record: &Record, limits: Limits) -> [bool; 4]
     let points = u64::from(limits.points);
     match *record {
         Record::Opening(opening) => [
-            !within(opening.days, 1, days) || ends_in_time(&opening),
-            within(opening.days, 1, days),
-            within(opening.unaccounted, 0, LARGEST_UNACCOUNTED),
+            !is_within(opening.days, 1, days) || ends_in_time(&opening),
+            is_within(opening.days, 1, days),
+            is_within(opening.unaccounted, 0, LARGEST_UNACCOUNTED),
             true,
         ],
         Record::Factors(factors) => [
-            within(factors.point, 1, points),
-            within(factors.base_load, 0, LARGEST_BASE_LOAD),
-            within(factors.sensitivity, 0, LARGEST_SENSITIVITY),
+            is_within(factors.point, 1, points),
+            is_within(factors.base_load, 0, LARGEST_BASE_LOAD),
+            is_within(factors.sensitivity, 0, LARGEST_SENSITIVITY),
             true,
         ],
         Record::Enrolment(enrolment) => [
-            within(enrolment.point, 1, points),
-            within(enrolment.retailer, 1, u64::from(RETAILERS)),
+            is_within(enrolment.point, 1, points),
+            is_within(enrolment.retailer, 1, u64::from(RETAILERS)),
             true,
             true,
         ],
         Record::GateDay(gate) => [
             true,
-            within(gate.energy_in, 0, LARGEST_GATE),
-            within(gate.energy_out, 0, LARGEST_GATE),
+            is_within(gate.energy_in, 0, LARGEST_GATE),
+            is_within(gate.energy_out, 0, LARGEST_GATE),
             true,
         ],
         Record::IntervalEnergy(interval) => [
             true,
-            within(interval.meter, 1, u64::from(METERS)),
-            within(interval.energy, 0, LARGEST_INTERVAL),
+            is_within(interval.meter, 1, u64::from(METERS)),
+            is_within(interval.energy, 0, LARGEST_INTERVAL),
             true,
         ],
         Record::DegreeDays(degrees) => [
             true,
-            within(degrees.count, 0, u64::from(GREATEST_COUNT)),
+            is_within(degrees.count, 0, u64::from(GREATEST_COUNT)),
             true,
             true,
         ],
         Record::Reading(reading) => [
-            within(reading.point, 1, points),
+            is_within(reading.point, 1, points),
             true,
             true,
             reading.energy <= LARGEST_ENERGY,
@@ -106,18 +106,23 @@ fn dates_exist(record: &Record) -> [bool; 4]
     ensures { result ≡ dates_exist «record».now }
 {
     match *record {
-        Record::Opening(opening) => [exists(opening.first_date), true, true, true],
+        Record::Opening(opening) => [date_exists(opening.first_date), true, true, true],
         Record::Factors(_) => [true, true, true, true],
-        Record::Enrolment(enrolment) => [true, true, exists(enrolment.start), true],
-        Record::GateDay(gate) => [exists(gate.date), true, true, true],
-        Record::IntervalEnergy(interval) => [exists(interval.date), true, true, true],
-        Record::DegreeDays(degrees) => [exists(degrees.date), true, true, true],
-        Record::Reading(reading) => [true, exists(reading.start), exists(reading.end), true],
+        Record::Enrolment(enrolment) => [true, true, date_exists(enrolment.start), true],
+        Record::GateDay(gate) => [date_exists(gate.date), true, true, true],
+        Record::IntervalEnergy(interval) => [date_exists(interval.date), true, true, true],
+        Record::DegreeDays(degrees) => [date_exists(degrees.date), true, true, true],
+        Record::Reading(reading) => [
+            true,
+            date_exists(reading.start),
+            date_exists(reading.end),
+            true,
+        ],
     }
 }
 
-// A field refused, at its first column.
-fn refused(refusal: Refusal, field: Field) -> Result<(), Fault>
+// Refuses a field, at its first column.
+fn refuse_field(refusal: Refusal, field: Field) -> Result<(), Fault>
     ensures { number_and_column result ≡ Some (number_of refusal, bytes_before field + 1) }
 {
     Err(Fault {
@@ -127,14 +132,14 @@ fn refused(refusal: Refusal, field: Field) -> Result<(), Fault>
 }
 
 // Refuses the leftmost of the four fields that does not pass.
-fn passed(fields: [bool; 4], refusal: Refusal) -> Result<(), Fault>
-    ensures { number_and_column result ≡ refused_by (number_of refusal) fields }
+fn judge_fields(fields: [bool; 4], refusal: Refusal) -> Result<(), Fault>
+    ensures { number_and_column result ≡ field_refusal (number_of refusal) fields }
 {
     match fields {
-        [false, ..] => refused(refusal, Field::First),
-        [_, false, ..] => refused(refusal, Field::Second),
-        [_, _, false, _] => refused(refusal, Field::Third),
-        [_, _, _, false] => refused(refusal, Field::Fourth),
+        [false, ..] => refuse_field(refusal, Field::First),
+        [_, false, ..] => refuse_field(refusal, Field::Second),
+        [_, _, false, _] => refuse_field(refusal, Field::Third),
+        [_, _, _, false] => refuse_field(refusal, Field::Fourth),
         _ => Ok(()),
     }
 }
@@ -152,6 +157,6 @@ fn passed(fields: [bool; 4], refusal: Refusal) -> Result<(), Fault>
 pub fn check_limits(record: &Record, limits: Limits) -> Result<(), Fault>
     ensures { number_and_column result ≡ verdict limits «record».now }
 {
-    passed(numbers_within(record, limits), Refusal::BeyondLimits)?;
-    passed(dates_exist(record), Refusal::NoSuchDate)
+    judge_fields(numbers_within(record, limits), Refusal::BeyondLimits)?;
+    judge_fields(dates_exist(record), Refusal::NoSuchDate)
 }

@@ -102,7 +102,7 @@ impl Line {
         Ok((first, second, third))
     }
 
-    // A line with the tag OPEN.
+    // The record of a line with the tag OPEN.
     fn opening(&self) -> Result<Record, Fault>
         ensures { ReadsContents Open self.now.bytes result }
     {
@@ -114,7 +114,7 @@ impl Line {
         }))
     }
 
-    // A line with the tag FACT.
+    // The record of a line with the tag FACT.
     fn factors(&self) -> Result<Record, Fault>
         ensures { ReadsContents Fact self.now.bytes result }
     {
@@ -126,7 +126,7 @@ impl Line {
         }))
     }
 
-    // A line with the tag ENRL.
+    // The record of a line with the tag ENRL.
     fn enrolment(&self) -> Result<Record, Fault>
         ensures { ReadsContents Enrl self.now.bytes result }
     {
@@ -138,7 +138,7 @@ impl Line {
         }))
     }
 
-    // A line with the tag GATE.
+    // The record of a line with the tag GATE.
     fn gate_day(&self) -> Result<Record, Fault>
         ensures { ReadsContents Gate self.now.bytes result }
     {
@@ -150,7 +150,7 @@ impl Line {
         }))
     }
 
-    // A line with the tag INTV.
+    // The record of a line with the tag INTV.
     fn interval_energy(&self) -> Result<Record, Fault>
         ensures { ReadsContents Intv self.now.bytes result }
     {
@@ -162,7 +162,7 @@ impl Line {
         }))
     }
 
-    // A line with the tag DEGD.
+    // The record of a line with the tag DEGD.
     fn degree_days(&self) -> Result<Record, Fault>
         ensures { ReadsContents Degd self.now.bytes result }
     {
@@ -170,7 +170,7 @@ impl Line {
         Ok(Record::DegreeDays(DegreeDays { date, count }))
     }
 
-    // A line with the tag READ.
+    // The record of a line with the tag READ.
     fn reading(&self) -> Result<Record, Fault>
         ensures { ReadsContents Read self.now.bytes result }
     {
