@@ -5,8 +5,8 @@ use Rattle.std.proofs.lemmas.Fmt.{decimal_by_steps, decimal_digit, decimal_step}
 use Rattle.std.proofs.lemmas.List.{length_push}
 use Rattle.std.proofs.lemmas.Bool.{cases_order}
 use Rattle.std.proofs.lemmas.Bool.Decides.{nat_tests}
-use Rattle.line_format.specs.Columns.{digits_kept}
-use Rattle.line_format.specs.Texts.{plain}
+use Rattle.line_format.specs.Columns.{last_digits}
+use Rattle.line_format.specs.SignedDigits.{has_no_leading_zero}
 use Rattle.line_format.proofs.Digits.{kept_push}
 
 pub length_one : (n : ℕ) → n < 10 → length (decimal n) ≡ 1
@@ -17,22 +17,22 @@ length_more n h f = ap length (decimal_step n h f) ∙ length_push _ _
 
 -- ds is the digits of n, with no leading zero
 pub record Shown (n : ℕ) (ds : List ℕ) : Type 0 where
-  pub digits : ds ≡ digits_kept (length ds) n
+  pub digits : ds ≡ last_digits (length ds) n
   pub below : n < 10 ^ length ds
-  pub no_zero : plain (length ds) n ≡ true
+  pub no_zero : has_no_leading_zero (length ds) n ≡ true
 
 shown_one : (n : ℕ) → n < 10 → Shown n ((48 + n) ∷ [])
 shown_one n h =
     let e : 48 + n ≡ 48 + n / 1 % 10 = omega arith in
     record { digits = ap (λ x. x ∷ []) e; below = h; no_zero = refl }
 
-plain_told : (k n : ℕ) → plain k n ≡ true → (k ≡ 1) ⊎ ((1 < k) × (10 ^ (k - 1) ≤ n))
+plain_told : (k n : ℕ) → has_no_leading_zero k n ≡ true → (k ≡ 1) ⊎ ((1 < k) × (10 ^ (k - 1) ≤ n))
 plain_told k n e = grind (arith, nat_tests)
 
-plain_by : (k n : ℕ) → 1 < k → 10 ^ (k - 1) ≤ n → plain k n ≡ true
+plain_by : (k n : ℕ) → 1 < k → 10 ^ (k - 1) ≤ n → has_no_leading_zero k n ≡ true
 plain_by k n h e = grind (arith, nat_tests)
 
-plain_more : (k n : ℕ) → 10 ≤ n → plain k (n / 10) ≡ true → plain (suc k) n ≡ true
+plain_more : (k n : ℕ) → 10 ≤ n → has_no_leading_zero k (n / 10) ≡ true → has_no_leading_zero (suc k) n ≡ true
 plain_more k n h e =
     ⊎_elim
     (λ one. plain_by (suc k) n (omega arith) (let p : suc k - 1 ≡ 1 = omega arith in rw p h))
@@ -46,7 +46,7 @@ shown_more : (n : ℕ) (ds : List ℕ) → 10 ≤ n → Shown (n / 10) ds → Sh
 shown_more n ds h s =
     let l : length (ds ++ ((48 + n % 10) ∷ [])) ≡ suc (length ds) = length_push ds (48 + n % 10) ∙ add-one (length ds) in
     let m : 10 * (n / 10) + n % 10 ≡ n = omega arith in
-    let p : digits_kept (suc (length ds)) n ≡ digits_kept (length ds) (n / 10) ++ ((48 + n % 10) ∷ []) = rw m at (kept_push (length ds) (n / 10) (n % 10) (omega arith)) in
+    let p : last_digits (suc (length ds)) n ≡ last_digits (length ds) (n / 10) ++ ((48 + n % 10) ∷ []) = rw m at (kept_push (length ds) (n / 10) (n % 10) (omega arith)) in
     let b = s.below in
     record {
       digits = rw (l, p) (ap (λ xs. xs ++ ((48 + n % 10) ∷ [])) s.digits);
@@ -57,7 +57,7 @@ shown_more n ds h s =
 pub shown : (n : ℕ) → n < 2 ^ 64 → Shown n (decimal n)
 shown n h = decimal_by_steps Shown shown_one shown_more n h
 
-fewer : (j k n : ℕ) → j < k → n < 10 ^ j → plain j n ≡ true → plain k n ≡ true → ⊥
+fewer : (j k n : ℕ) → j < k → n < 10 ^ j → has_no_leading_zero j n ≡ true → has_no_leading_zero k n ≡ true → ⊥
 fewer j k n l p e f =
     let some : 0 < j = ⊎_elim (λ one. omega arith) (λ more. omega arith) (plain_told j n e) in
     ⊎_elim
@@ -66,7 +66,7 @@ fewer j k n l p e f =
     (plain_told k n f)
 
 -- there is one such number of digits
-pub digits_unique : (j k n : ℕ) → n < 10 ^ j → n < 10 ^ k → plain j n ≡ true → plain k n ≡ true → j ≡ k
+pub digits_unique : (j k n : ℕ) → n < 10 ^ j → n < 10 ^ k → has_no_leading_zero j n ≡ true → has_no_leading_zero k n ≡ true → j ≡ k
 digits_unique j k n p q e f =
     ⊎_elim (λ same. same) (⊎_elim (λ l. absurd (fewer j k n l p e f)) (λ l. absurd (fewer k j n l q f e))) (cases_order j k)
 

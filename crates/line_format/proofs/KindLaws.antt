@@ -2,15 +2,16 @@
 use Rattle.std.proofs.Common.{◌≡◌, ℕ, cond, T, eqb, List, length, get_or, Err, sym, refl, ap, ◌∙◌, arith}
 use Rattle.terms.specs.Letters.{letter_of}
 use Rattle.terms.specs.declared.refusal.Refusal.{Refusal}
-use Rattle.line_format.specs.Reads.{Reads, ReadAs}
-use Rattle.line_format.specs.Texts.{text_columns, text_fits}
-use Rattle.line_format.specs.declared.text.Text.{Text}
-use Rattle.line_format.specs.Kinds.{Kind, Held, width, fits, columns, number, signed, date, blank, reading_type, no_letter}
+use Rattle.line_format.specs.Columns.{InvertsWriting}
+use Rattle.line_format.specs.FieldValue.{ReadsField}
+use Rattle.line_format.specs.SignedDigits.{text_columns, text_fits}
+use Rattle.line_format.specs.declared.signed_digits.SignedDigits.{SignedDigits}
+use Rattle.line_format.specs.Kind.{Kind, Value, width, fits, columns, number, signed, date, blank, reading_type, no_letter}
 use Rattle.terms.specs.declared.reading_type.ReadingType.{ReadingType}
 use Rattle.terms.specs.declared.reading_type.ReadingType.TheVariants.{Actual, Substituted, Estimated, CustomersOwn}
-use Rattle.line_format.proofs.Holding.{number_sort, signed_sort, date_sort, blank_sort, stands, ten_columns, told_by_columns}
+use Rattle.line_format.proofs.KindTexts.{number_sort, signed_sort, date_sort, blank_sort, stands, ten_columns, same_from_columns}
 
-pub length_columns : (k : Kind) (x : Held k) → T (fits k x) → length (columns k x) ≡ width k
+pub length_columns : (k : Kind) (x : Value k) → T (fits k x) → length (columns k x) ≡ width k
 length_columns number n h = ten_columns number_sort n h
 length_columns signed z h = ten_columns signed_sort z h
 length_columns date n h = ten_columns date_sort n h
@@ -32,16 +33,16 @@ type_back CustomersOwn = refl
 same_type : (s t : ReadingType) → letter_of s ≡ letter_of t → s ≡ t
 same_type s t e = sym (type_back s) ∙ ap type_of e ∙ type_back t
 
-pub told : (k : Kind) (x y : Held k) → T (fits k x) → T (fits k y) → columns k x ≡ columns k y → x ≡ y
-told number m n h k e = told_by_columns number_sort m n h k e
-told signed m n h k e = told_by_columns signed_sort m n h k e
-told date m n h k e = told_by_columns date_sort m n h k e
-told blank m n h k e = refl
-told reading_type s t h k e = same_type s t (ap (λ l. get_or l 0 0) e)
-told no_letter m n h k e = refl
+pub value_from_columns : (k : Kind) (x y : Value k) → T (fits k x) → T (fits k y) → columns k x ≡ columns k y → x ≡ y
+value_from_columns number m n h k e = same_from_columns number_sort m n h k e
+value_from_columns signed m n h k e = same_from_columns signed_sort m n h k e
+value_from_columns date m n h k e = same_from_columns date_sort m n h k e
+value_from_columns blank m n h k e = refl
+value_from_columns reading_type s t h k e = same_type s t (ap (λ l. get_or l 0 0) e)
+value_from_columns no_letter m n h k e = refl
 
 -- what takes ten columns stands there as a text, so columns that are no text are read as nothing
-stands_as_text : (k : Kind) → width k ≡ 10 → (x : Held k) → T (fits k x) → (t : Text) × T (text_fits t) × (columns k x ≡ text_columns t)
+stands_as_text : (k : Kind) → width k ≡ 10 → (x : Value k) → T (fits k x) → (t : SignedDigits) × T (text_fits t) × (columns k x ≡ text_columns t)
 stands_as_text number ten n h = stands number_sort n h
 stands_as_text signed ten z h = stands signed_sort z h
 stands_as_text date ten n h = stands date_sort n h
@@ -49,5 +50,5 @@ stands_as_text blank ten _ h = stands blank_sort tt tt
 stands_as_text reading_type ten t h = absurd (omega arith)
 stands_as_text no_letter ten _ h = absurd (omega arith)
 
-pub no_text : {X : Type 0} (k : Kind) (held : X → Held k) → width k ≡ 10 → (bytes : List ℕ) (e : Refusal) → Reads text_fits text_columns bytes (Err e) → ReadAs k held bytes (Err e)
-no_text k held ten bytes e q = (q.0, λ x h f. let t = stands_as_text k ten x h in q.1 t.0 t.1 (f ∙ t.2))
+pub no_text : {X : Type 0} (k : Kind) (value_of : X → Value k) → width k ≡ 10 → (bytes : List ℕ) (e : Refusal) → InvertsWriting text_fits text_columns bytes (Err e) → ReadsField k value_of bytes (Err e)
+no_text k value_of ten bytes e q = (q.0, λ x h f. let t = stands_as_text k ten x h in q.1 t.0 t.1 (f ∙ t.2))

@@ -1,36 +1,25 @@
-ghost use Rattle.std.specs.Prelude.{◌≡◌, refl};
-ghost use Rattle.line_format.specs.Columns.{blank_columns};
-ghost use Rattle.line_format.specs.Kinds.{blank};
-ghost use Rattle.line_format.specs.Texts.{blank_text};
+ghost use Rattle.std.specs.Prelude.{refl};
+ghost use Rattle.line_format.specs.Kind.{blank};
 
 use super::field_text::FieldText;
-use super::text::Text;
-use super::value::FieldValue;
+use super::field_value::FieldValue;
+use super::signed_digits::SignedDigits;
+
+// What stands in an unused field: ten spaces.
+#[derive(Clone, Copy, PartialEq, Eq, Debug)]
+pub(crate) struct Blank;
 
 // The text of an unused field.
-const EMPTY: Text = Text {
+const NO_DIGITS: SignedDigits = SignedDigits {
     minus: false,
     digits: 0,
     value: 0,
 };
 
-// An unused field.
-#[derive(Clone, Copy, PartialEq, Eq, Debug)]
-pub struct Blank;
-
-impl FieldText {
-    // Whether nothing stands in the field. One line, as in `is_date`: a function of the count would be no plainer.
-    fn is_blank(&self) -> bool
-        ensures { result ≡ blank_text self.now.text }
-    {
-        !self.text.minus && self.text.digits == 0
-    }
-}
-
 impl FieldValue for Blank {
     ghost kind = { blank };
 
-    ghost held = { λ _. tt };
+    ghost value_of = { λ _. tt };
 
     ghost ten_columns = { refl };
 
@@ -39,13 +28,6 @@ impl FieldValue for Blank {
     }
 
     fn to_text(self) -> Option<FieldText> {
-        Some(FieldText { text: EMPTY })
+        Some(FieldText { text: NO_DIGITS })
     }
-}
-
-// The columns of an unused field. Beside `Blank.write()`, whose type allows a refusal: this cannot fail.
-pub fn write_blank() -> [u8; 10]
-    ensures { result ≡ blank_columns }
-{
-    [b' '; 10]
 }

@@ -1,47 +1,35 @@
-// The columns of a line: what may stand in a field of ten columns and in the letter's column, read and written.
-// The records that reach the engine, and the one line in which each is written.
-// Lines of 45 bytes and a line feed, read as the records that they are the writing of.
-// Whether the numbers of a record are within their limits, and its dates exist.
+//! Lines of 45 bytes and a line feed: which record each says, how a record is written, and whether
+//! its numbers are within their limits and its dates exist.
+//!
+//! A line has a tag of four capitals, four fields of ten columns and the column of a letter. It is
+//! proved of every line and every record that
+//!
+//! - bytes of any number are read as a record or refused at one column at fault, and no other
+//!   column is at fault;
+//! - what is written of a record is read as that record, and what is read as a record is, byte for
+//!   byte, what is written of it, so no record has a second writing;
+//! - a record is refused exactly where a number is beyond its limits or else a date does not exist,
+//!   at the first column of the leftmost such field.
 #![tactic(auto)]
 
 mod blank;
-mod check;
-mod checked_line;
-mod date;
-mod dates;
+mod eight_digits;
 mod fault;
 mod field;
 mod field_text;
-mod layout;
+mod field_value;
 mod letter;
 mod limits;
 mod line;
-mod number;
-mod numbers;
-mod parts;
-mod read;
+mod other_limits;
 mod record;
-mod round_trip;
-mod signed;
+mod signed_digits;
 mod tag;
-mod text;
-mod value;
-mod write;
 
-pub use blank::{Blank, write_blank};
-pub use check::check_limits;
-pub use checked_line::{LineFault, check_line, on_line};
-pub use date::EightDigits;
-pub use fault::Fault;
+pub use fault::{Fault, LAST_LINE_NUMBER, LineFault, on_line};
 pub use field::Field;
-pub use field_text::FieldText;
-pub use letter::{letter_of, read_no_letter, type_of_letter};
-pub use limits::Limits;
-pub use read::read_line;
+pub use limits::{Limits, check_limits};
+pub use line::{check_line, read_back, read_line, write_again};
 pub use record::{
-    DegreeDays, Enrolment, Factors, GateDay, IntervalEnergy, Opening, Reading, Record,
+    DegreeDays, Enrolment, Factors, GateDay, IntervalEnergy, Opening, Reading, Record, write_record,
 };
-pub use round_trip::{read_back, write_again};
-pub use tag::Tag;
-pub use value::FieldValue;
-pub use write::write_record;

@@ -1,12 +1,12 @@
 ghost use Rattle.std.specs.Prelude.{◌≡◌, true};
-ghost use Rattle.line_format.specs.Reads.{Reads};
-ghost use Rattle.line_format.specs.Tags.{tag_bytes};
+ghost use Rattle.line_format.specs.Columns.{InvertsWriting};
+ghost use Rattle.line_format.specs.Tag.{tag_bytes};
 
 use terms::Refusal;
 
-// The four capitals that a line begins with.
+// The four capitals that a line begins with; they tell which record it is.
 #[derive(Clone, Copy, PartialEq, Eq, Debug)]
-pub enum Tag {
+pub(crate) enum Tag {
     Open,
     Fact,
     Enrl,
@@ -16,11 +16,11 @@ pub enum Tag {
     Read,
 }
 
-// The tag that the bytes are.
+// The tag that the bytes are. Refuses any others as malformed (1).
 impl TryFrom<&[u8]> for Tag {
     type Error = Refusal;
 
-    ghost try_from_gives = { λ bytes r. Reads (λ _. true) tag_bytes bytes.now r };
+    ghost try_from_gives = { λ bytes r. InvertsWriting (λ _. true) tag_bytes bytes.now r };
 
     fn try_from(bytes: &[u8]) -> Result<Tag, Refusal> {
         match bytes {

@@ -1,12 +1,32 @@
 use line_format::{Fault, Limits, check_line, write_record};
 use std::process::Abort;
 use std::test::Fail;
+use terms::Refusal;
 
 // A line, and what it is answered.
 #[derive(Clone, Copy)]
-pub(crate) struct Row {
-    pub(crate) line: &'static [u8],
-    pub(crate) expected: Result<(), Fault>,
+pub(crate) struct Row(pub(crate) &'static [u8], pub(crate) Result<(), Fault>);
+
+// What a good line is answered.
+pub(crate) const GOOD: Result<(), Fault> = Ok(());
+
+// What a malformed line is answered, by the column at fault.
+pub(crate) fn malformed(column: u8) -> Result<(), Fault> {
+    refused(Refusal::MalformedLine, column)
+}
+
+// The same of a line with a number beyond its limits.
+pub(crate) fn beyond_limits(column: u8) -> Result<(), Fault> {
+    refused(Refusal::BeyondLimits, column)
+}
+
+// The same of a line with a date that does not exist.
+pub(crate) fn no_such_date(column: u8) -> Result<(), Fault> {
+    refused(Refusal::NoSuchDate, column)
+}
+
+fn refused(refusal: Refusal, column: u8) -> Result<(), Fault> {
+    Err(Fault { refusal, column })
 }
 
 const LIMITS: Limits = Limits {
@@ -16,10 +36,10 @@ const LIMITS: Limits = Limits {
 
 // Each line is answered as the table has it, and a good one is written again with the same bytes.
 pub(crate) fn check_rows(rt: &impl Abort, rows: &[Row]) -> Result<(), Fail> {
-    for row in rows {
-        match row.expected {
-            Ok(()) => check_good(rt, row.line)?,
-            Err(expected) => check_refused(rt, row.line, expected)?,
+    for Row(line, expected) in rows {
+        match expected {
+            Ok(()) => check_good(rt, line)?,
+            Err(expected) => check_refused(rt, line, *expected)?,
         }
     }
     Ok(())

@@ -3,7 +3,8 @@ use line_format::{
 };
 use terms::ReadingType;
 
-// The values of each record stand in its own fields. A test for each tag, so that the one that fails is named.
+// The values of each record stand in its own fields. A test for each tag, so that the one that
+// fails is named.
 #[test]
 fn opening(rt: HostRuntime) {
     let line = b"OPEN  20240701         2      2000           \n";

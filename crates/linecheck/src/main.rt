@@ -1,12 +1,13 @@
-// Reads lines on standard input and prints what each says, or its number, layer, refusal and column.
+//! Reads lines on standard input and prints what each says, or its number, layer, refusal and
+//! column. A book has at most 62 days and 32 points.
 #![tactic(auto)]
 
-mod words;
+mod record_text;
 
-use line_format::{Limits, check_line};
+use line_format::{LAST_LINE_NUMBER, Limits, check_line};
+use record_text::RecordText;
 use std::io;
 use std::io::{BufRead, BufReader};
-use words::Words;
 
 // The largest book that the lines may speak of.
 const LIMITS: Limits = Limits {
@@ -14,21 +15,17 @@ const LIMITS: Limits = Limits {
     points: 32,
 };
 
-// No line has a larger number: all later ones share it.
-const LAST_NUMBER: u64 = 9_999_999_999;
-
 fn main(rt: HostRuntime) -> io::Result<()> {
     let mut input = BufReader::new(rt.alloc(), rt.stdin())?;
     let mut line = Vec::new(rt.alloc());
-    // Counted, since nothing says that a reader ends.
     for count in 1..u64::MAX {
         line.clear();
         if input.read_until(b'\n', &mut line)? == 0 {
             break;
         }
-        let number = count.min(LAST_NUMBER);
+        let number = count.min(LAST_LINE_NUMBER);
         match check_line(number, line.as_slice(), LIMITS) {
-            Ok(record) => println!(rt; "line {number}: {}", Words(record))?,
+            Ok(record) => println!(rt; "line {number}: {}", RecordText(record))?,
             Err(fault) => println!(rt; "{fault}")?,
         }
     }

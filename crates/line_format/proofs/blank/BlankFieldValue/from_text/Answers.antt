@@ -1,5 +1,5 @@
 use Rattle.std.proofs.Common.{refl}
-use Rattle.line_format.proofs.Holding.{blank_sort, by_sort}
+use Rattle.line_format.proofs.KindTexts.{blank_sort, by_sort}
 use Rattle.line_format.proofs.blank.BlankFieldValue.from_text.Goals as goal
 
 pub returns : goal.returns

@@ -1,5 +1,5 @@
 use Rattle.std.proofs.Common.{refl}
-use Rattle.line_format.proofs.Holding.{blank_sort, written_as}
+use Rattle.line_format.proofs.KindTexts.{blank_sort, written_as}
 use Rattle.line_format.proofs.blank.BlankFieldValue.to_text.Goals as goal
 
 pub returns : goal.returns

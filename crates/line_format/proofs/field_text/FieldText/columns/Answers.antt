@@ -1,5 +1,5 @@
 use Rattle.std.proofs.Common.{arith}
-use Rattle.line_format.proofs.Placing.{digit_more, placed_unsigned, placed_signed}
+use Rattle.line_format.proofs.DigitColumns.{digit_more, placed_unsigned, placed_signed}
 use Rattle.line_format.proofs.field_text.FieldText.columns.Goals as goal
 
 pub loop-at-preserved : goal.loop-at-preserved

@@ -1,5 +1,5 @@
 use Rattle.std.proofs.Common.{refl}
-use Rattle.line_format.specs.Parts.{none, next}
+use Rattle.line_format.specs.Segment.{none, next}
 use Rattle.line_format.proofs.line.Line.gate_day.Goals as goal
 
 pub returns : goal.returns

@@ -1,9 +1,9 @@
 use Rattle.std.proofs.Common.{refl, rules}
-use Rattle.line_format.specs.Kinds.{no_letter}
-use Rattle.line_format.specs.Parts.{part}
-use Rattle.line_format.proofs.Pieces.{part_read, letter_piece}
+use Rattle.line_format.specs.Kind.{no_letter}
+use Rattle.line_format.specs.Segment.{segment}
+use Rattle.line_format.proofs.LineSegments.{segment_read, letter_segment}
 use Rattle.line_format.proofs.line.Line.no_letter.Goals as goal
 
 pub returns : goal.returns
 returns c =
-    part_read (part no_letter 44 c.args.self.now.bytes) _ _ _ _ (letter_piece c.args.self.now.bytes (search rules)) refl c.read_no_letter.ensures c.placed.ensures
+    segment_read (segment no_letter 44 c.args.self.now.bytes) _ _ _ _ (letter_segment c.args.self.now.bytes (search rules)) refl c.read_no_letter.ensures c.at_column.ensures

@@ -1,7 +1,0 @@
-use Rattle.std.proofs.Common.{rules}
-use Rattle.line_format.proofs.Holding.{date_sort, by_test}
-use Rattle.line_format.proofs.date.EightDigitsFieldValue.from_text.Goals as goal
-
-pub returns : goal.returns
-returns c =
-    by_test date_sort (λ d. d.0) c.args.text _ _ c.is_date.ensures c.then.ensures.variant (search rules)

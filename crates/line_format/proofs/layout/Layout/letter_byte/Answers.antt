@@ -1,6 +1,0 @@
-use Rattle.std.proofs.Common.{rules}
-use Rattle.line_format.proofs.Joining.{letter_written}
-use Rattle.line_format.proofs.layout.Layout.letter_byte.Goals as goal
-
-pub returns : goal.returns
-returns c = letter_written c.args.self.now.letter _ (search rules)

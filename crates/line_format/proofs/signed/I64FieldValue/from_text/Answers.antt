@@ -1,6 +1,0 @@
-use Rattle.std.proofs.Common.{rules}
-use Rattle.line_format.proofs.Holding.{signed_sort, by_sort}
-use Rattle.line_format.proofs.signed.I64FieldValue.from_text.Goals as goal
-
-pub returns : goal.returns
-returns c = by_sort signed_sort (λ z. z) c.args.text _ _ _ c.is_signed.ensures (search rules) c.then_some.ensures

@@ -1,9 +1,0 @@
-use Rattle.line_format.specs.Reads.{ReadAs}
-use Rattle.line_format.proofs.Exits.{at_exit}
-use Rattle.line_format.proofs.KindLaws.{no_text}
-use Rattle.line_format.proofs.value.FieldValue.read.Goals as goal
-
-pub returns-in_err-text : goal.returns-in_err-text
-returns-in_err-text g c =
-    let m = g.Self.FieldValue in
-    at_exit (ReadAs m.kind m.held c.args.columns.now) _ _ c.from_residual.ensures (no_text m.kind m.held g.met.Self.FieldValue.ten_columns c.args.columns.now _ c.in_err-text.ensures)
