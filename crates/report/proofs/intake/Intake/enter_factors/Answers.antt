@@ -1,4 +1,4 @@
-use Rattle.report.proofs.Factors.{factors_entered}
+use Rattle.report.proofs.FactorsLemmas.{factors_entered}
 use Rattle.report.proofs.intake.Intake.enter_factors.Goals as goal
 
 pub returns-clause-law : goal.returns-clause-law

@@ -1,5 +1,5 @@
 use Rattle.std.proofs.Common.{refl, arith}
-use Rattle.report.proofs.Factors.{nothing_told}
+use Rattle.report.proofs.FactorsLemmas.{nothing_told}
 use Rattle.report.proofs.intake.Intake.new.Goals as goal
 
 pub returns : goal.returns
