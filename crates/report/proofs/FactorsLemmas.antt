@@ -10,7 +10,7 @@ use Rattle.estimates.specs.Factors.{entry_within, weather_figure}
 use Rattle.estimates.specs.WeatherFigures.{figures, figures_under}
 use Rattle.estimates.specs.declared.by_weather.ByWeather.{ByWeather}
 use Rattle.estimates.specs.declared.factors.Factors as weather
-use Rattle.estimates.specs.WeatherLaws as laws
+use Rattle.estimates.specs.WeatherLaws.{bounded_under}
 use Rattle.estimators.specs.Entries.{entry_numbered}
 use Rattle.estimators.specs.Meaning.{Bounded, BoundedUnder, weather_within}
 use Rattle.line_format.specs.Judging.{verdict}
@@ -22,9 +22,9 @@ use Rattle.terms.specs.Answers.{Answers}
 use Rattle.terms.specs.declared.refusal.Refusal.{Refusal}
 use Rattle.report.specs.declared.stage.Stage.{Stage}
 use Rattle.report.specs.declared.stage.Stage.TheVariants as stage
-use Rattle.report.specs.Intake.{HasFactors, IsStageOf}
-use Rattle.report.specs.IntakeHistory.{IntakeHistory, history_with_record, largest_book, no_figure, opened, unopened, weather_meaning}
-use Rattle.report.specs.RecordRefusal.{is_in_turn, placed_refusal}
+use Rattle.report.specs.Intake.{AcceptsRecord, HasFactors, is_turn_at}
+use Rattle.report.specs.IntakeHistory.{largest_book, no_figure, opened, unopened, weather_meaning}
+use Rattle.report.specs.RecordRefusal.{IsWithinLimits, placed_refusal}
 
 -- the factors that a record enters
 abbrev pub factors_in : Factors → weather.Factors
@@ -80,7 +80,7 @@ pub none_yet : (fs : List Factors) (w : ByWeather) → HasFactors fs w → (p d 
 none_yet fs w stands p d = ap (option_and_then (λ count. figures_under w count p d)) (stands.counts d)
 
 pub weather_bounded : (fs : List Factors) (w : ByWeather) → HasFactors fs w → BoundedUnder (weather_meaning fs)
-weather_bounded fs w stands count p d x is = laws.bounded_under w count p d x (weather_stands fs w stands count p d ∙ is)
+weather_bounded fs w stands count p d x is = bounded_under w count p d x (weather_stands fs w stands count p d ∙ is)
 
 pub none_bounded : Bounded no_figure
 none_bounded p d x is = absurd (cc)
@@ -91,13 +91,13 @@ accepted_none x (Ok u) (Err f) answer fits same = absurd (true≢false (sym same
 accepted_none x (Err e) a answer fits same = absurd (subst (λ b. Answers {X = Unit {0}} (Err e) b tt 3) fits answer)
 
 -- a record of factors that is within its limits and in its turn is before the others
-pub factors_entered : (f : Factors) (stage : Stage) (w w' : ByWeather) (r : Result (Unit {0}) Refusal) (a : Result (Unit {0}) Fault) → verdict largest_book (of.Factors f) ≡ None → Answers r (entry_within f.point (factors_in f)) tt 3
-    → w'.factors ≡ cond (entry_within f.point (factors_in f)) (set w.factors (f.point - 1) (Some (factors_in f))) w.factors → w'.counts ≡ w.counts → is_ok a ≡ is_ok r
-    → (t : IntakeHistory) → IsStageOf t stage w → is_in_turn t (of.Factors f) ≡ true → (placed_refusal a ≡ None) × IsStageOf (history_with_record t (of.Factors f)) stage w'
-factors_entered f (stage.Unopened lists) w w' r a within answer factors counts same (unopened fs) stands turn = (accepted_none f r a answer (factors_fit f within) same, (stands.0, factors_stand fs f w w' within factors counts stands.1))
-factors_entered f stage.Opening w w' r a within answer factors counts same (unopened fs) stands turn = absurd stands
-factors_entered f (stage.Opened o) w w' r a within answer factors counts same (unopened fs) stands turn = absurd stands
-factors_entered f stage w w' r a within answer factors counts same (opened s h) stands turn = absurd (false≢true turn)
+pub factors_entered : (f : Factors) (s : Stage) (w w' : ByWeather) (r : Result (Unit {0}) Refusal) (a : Result (Unit {0}) Fault) → IsWithinLimits (of.Factors f) → is_turn_at s (of.Factors f) ≡ true
+    → Answers r (entry_within f.point (factors_in f)) tt 3 → w'.factors ≡ cond (entry_within f.point (factors_in f)) (set w.factors (f.point - 1) (Some (factors_in f))) w.factors → w'.counts ≡ w.counts → is_ok a ≡ is_ok r
+    → AcceptsRecord (of.Factors f) a s w s w'
+factors_entered f (stage.Unopened lists) w w' r a within turn answer factors counts same (unopened fs) stands = (accepted_none f r a answer (factors_fit f within) same, (stands.0, factors_stand fs f w w' within factors counts stands.1))
+factors_entered f (stage.Unopened lists) w w' r a within turn answer factors counts same (opened s h) stands = absurd stands
+factors_entered f stage.Opening w w' r a within turn answer factors counts same t stands = absurd (false≢true turn)
+factors_entered f (stage.Opened o) w w' r a within turn answer factors counts same t stands = absurd (false≢true turn)
 
 -- a table of none reads as none everywhere
 read_none : {X : Type 0} (n i : ℕ) → get_or {A = Option X} (replicate n None) i None ≡ None
@@ -109,8 +109,8 @@ none_in : {X : Type 0} (last n p : ℕ) → entry_numbered {X = X} last (replica
 none_in {X} last n p = cond_both (leb 1 p && leb p last) _ None (λ (o : Option X). o ≡ None) (λ _. read_none n (p - 1)) (λ _. refl)
 
 -- before any line the estimator has no factors and no count
-pub nothing_told : (w : ByWeather) → w.factors ≡ replicate 256 None → w.counts ≡ replicate 400 None → HasFactors [] w
-nothing_told w factors counts = record {
+pub nothing_entered : (w : ByWeather) → w.factors ≡ replicate 256 None → w.counts ≡ replicate 400 None → HasFactors [] w
+nothing_entered w factors counts = record {
   table = ap length factors ∙ length-replicate {A = Option weather.Factors} 256 None;
   factors = λ p. ap (λ t. entry_numbered 256 t p) factors ∙ none_in 256 256 p;
   counts = λ d. ap (λ t. entry_numbered 400 t d) counts ∙ none_in 400 400 d;

@@ -2,19 +2,21 @@
 use Rattle.std.proofs.Common.{◌≡◌, ℕ, ◌+◌, ◌≤◌, min, Bool, true, false, cond, List, [], ◌∷◌, Some, None, Ok, Err, Option, Result, sym, refl, ap, ◌∙◌, subst, arith}
 use Rattle.std.specs.Option.{option_map, option_or, unwrap_or}
 use Rattle.line_format.specs.Dates.{dates_exist}
-use Rattle.line_format.specs.Judging as limit
+use Rattle.line_format.specs.Judging.{leftmost, refused_by, verdict}
 use Rattle.line_format.specs.Lines.{placed_on}
 use Rattle.line_format.specs.Numbers.{numbers_within}
 use Rattle.line_format.specs.Reading.{LineRead}
 use Rattle.line_format.specs.declared.fault.Fault.{Fault}
 use Rattle.line_format.specs.declared.record.Record.{Record}
-use Rattle.terms.specs.Numbers as refusals
-use Rattle.terms.specs.Numbers.{number_of, day_named}
+use Rattle.terms.specs.Numbers.{number_of, day_named, layer_number, layer_of}
 use Rattle.terms.specs.declared.refusal.Refusal.{Refusal}
 use Rattle.terms.specs.declared.refusal.Refusal.TheVariants.{MalformedLine, OutOfTurn, BeyondLimits, NoSuchDate, OutsideBook, NegativeEnergy, PointNotEnrolled, PointEnrolledAlready, StartIsNoMark, EndNotAllowed, CoveredDayWithoutLoad, SoftOverFirm, ReadingPlacesFull, AskedDayWithoutLoad, ListTooShort}
 use Rattle.report.specs.declared.intake.Intake.{Intake}
-use Rattle.report.specs.Intake.{EntersLine, IsStageOf}
-use Rattle.report.specs.IntakeHistory.{IntakeHistory, history_with_record, largest_book}
+use Rattle.estimates.specs.declared.by_weather.ByWeather.{ByWeather}
+use Rattle.report.specs.declared.stage.Stage.{Stage}
+use Rattle.report.specs.declared.stage.Stage.TheVariants as stage
+use Rattle.report.specs.Intake.{EntersLine, EntersRecord, IsStageOf, is_turn_at}
+use Rattle.report.specs.IntakeHistory.{IntakeHistory, history_with_record, largest_book, opened, unopened}
 use Rattle.report.specs.LineContent.{last_line_number, layer_by_number, malformed_at, record_is, reported_answer, reported_refusal}
 use Rattle.report.specs.RecordRefusal.{PlacedRefusal, history_unless_refused, is_in_turn, out_of_turn, placed_refusal, refusal_by_book}
 
@@ -37,7 +39,7 @@ names_none (AskedDayWithoutLoad date) n is few = absurd (omega arith)
 names_none ListTooShort n is few = refl
 
 -- the layer of a refusal follows from its number
-pub layers : (e : Refusal) → refusals.layer_number (refusals.layer_of e) ≡ layer_by_number (number_of e)
+pub layers : (e : Refusal) → layer_number (layer_of e) ≡ layer_by_number (number_of e)
 layers MalformedLine = refl
 layers OutOfTurn = refl
 layers BeyondLimits = refl
@@ -77,15 +79,24 @@ malformed_enters bytes f intake read t stands = (malformed_at f.column, read.1, 
 abbrev limits_first : Option (ℕ × ℕ) → Option PlacedRefusal → Option PlacedRefusal
 limits_first v later = option_or (option_map (λ at. record { number = at.0; column = at.1; date = None }) v) later
 
+-- the stage tells whose turn it is
+turn_at : (t : IntakeHistory) (s : Stage) (w : ByWeather) (x : Record) → IsStageOf t s w → is_in_turn t x ≡ is_turn_at s x
+turn_at (unopened fs) (stage.Unopened lists) w x is = refl
+turn_at (unopened fs) stage.Opening w x is = absurd is
+turn_at (unopened fs) (stage.Opened o) w x is = absurd is
+turn_at (opened s h) (stage.Unopened lists) w x is = absurd is
+turn_at (opened s h) stage.Opening w x is = absurd is
+turn_at (opened s h) (stage.Opened o) w x is = refl
+
 -- a record out of turn
 turn_decides : (b : Bool) (later : Option PlacedRefusal) (r : PlacedRefusal) (t w : IntakeHistory) → Some r ≡ cond b None (Some out_of_turn) → (Some r ≡ cond b later (Some out_of_turn)) × (history_unless_refused (cond b later (Some out_of_turn)) t w ≡ t)
 turn_decides true later r t w is = absurd (cc)
 turn_decides false later r t w is = (is, refl)
 
 pub turn_enters : (bytes : List ℕ) (x : Record) (f : Fault) (intake : Intake) → LineRead bytes (Ok x)
-    → ((t : IntakeHistory) → IsStageOf t intake.stage intake.weather → placed_refusal {X = Unit {0}} (Err f) ≡ cond (is_in_turn t x) None (Some out_of_turn)) → EntersLine bytes (Err f) intake intake
+    → placed_refusal {X = Unit {0}} (Err f) ≡ cond (is_turn_at intake.stage x) None (Some out_of_turn) → EntersLine bytes (Err f) intake intake
 turn_enters bytes x f intake read turn t stands =
-    let told = turn_decides (is_in_turn t x) (limits_first (limit.verdict largest_book x) (refusal_by_book t x)) _ t (history_with_record t x) (turn t stands) in
+    let told = turn_decides (is_in_turn t x) (limits_first (verdict largest_book x) (refusal_by_book t x)) _ t (history_with_record t x) (turn ∙ ap (λ b. cond b None (Some out_of_turn)) (sym (turn_at t intake.stage intake.weather x stands))) in
     (record_is x, read, told.0, subst (λ (y : IntakeHistory). IsStageOf y intake.stage intake.weather) (sym told.1) stands)
 
 pub in_turn_since : (b : Bool) → None ≡ cond b None (Some out_of_turn) → b ≡ true
@@ -97,7 +108,7 @@ abbrev pub number_in : Option (ℕ × ℕ) → ℕ
 number_in None = 0
 number_in (Some at) = at.0
 
-leftmost_number : (n c : ℕ) (fields : List Bool) (m d : ℕ) → limit.leftmost n c fields ≡ Some (m, d) → m ≡ n
+leftmost_number : (n c : ℕ) (fields : List Bool) (m d : ℕ) → leftmost n c fields ≡ Some (m, d) → m ≡ n
 leftmost_number n c [] m d is = absurd (cc)
 leftmost_number n c (true ∷ bs) m d is = leftmost_number n (c + 10) bs m d is
 leftmost_number n c (false ∷ bs) m d is = sym (ap number_in is)
@@ -106,19 +117,19 @@ either_number : (a b : Option (ℕ × ℕ)) (m d : ℕ) → ((m d : ℕ) → a �
 either_number None b m d three four is = let same : m ≡ 4 = four m d is in omega arith
 either_number (Some p) b m d three four is = let same : m ≡ 3 = three m d is in omega arith
 
-verdict_number : (x : Record) (m d : ℕ) → limit.verdict largest_book x ≡ Some (m, d) → m ≤ 4
+verdict_number : (x : Record) (m d : ℕ) → verdict largest_book x ≡ Some (m, d) → m ≤ 4
 verdict_number x m d is =
-    either_number (limit.refused_by 3 (numbers_within largest_book x)) (limit.refused_by 4 (dates_exist x)) m d (leftmost_number 3 5 (numbers_within largest_book x)) (leftmost_number 4 5 (dates_exist x)) is
+    either_number (refused_by 3 (numbers_within largest_book x)) (refused_by 4 (dates_exist x)) m d (leftmost_number 3 5 (numbers_within largest_book x)) (leftmost_number 4 5 (dates_exist x)) is
 
 limits_decide : (b : Bool) (v : Option (ℕ × ℕ)) (later : Option PlacedRefusal) (n c : ℕ) (t w : IntakeHistory) → b ≡ true → v ≡ Some (n, c)
     → (cond b (limits_first v later) (Some out_of_turn) ≡ Some (record { number = n; column = c; date = None })) × (history_unless_refused (cond b (limits_first v later) (Some out_of_turn)) t w ≡ t)
 limits_decide b v later n c t w turn is = rw (turn, is) (refl, refl)
 
 pub limits_enter : (bytes : List ℕ) (x : Record) (f : Fault) (intake : Intake) → LineRead bytes (Ok x)
-    → ((t : IntakeHistory) → IsStageOf t intake.stage intake.weather → placed_refusal {X = Unit {0}} (Ok tt) ≡ cond (is_in_turn t x) None (Some out_of_turn))
-    → Some (number_of f.refusal, f.column) ≡ limit.verdict largest_book x → EntersLine bytes (Err f) intake intake
+    → is_turn_at intake.stage x ≡ true
+    → Some (number_of f.refusal, f.column) ≡ verdict largest_book x → EntersLine bytes (Err f) intake intake
 limits_enter bytes x f intake read turn refused t stands =
-    let told = limits_decide (is_in_turn t x) (limit.verdict largest_book x) (refusal_by_book t x) (number_of f.refusal) f.column t (history_with_record t x) (in_turn_since (is_in_turn t x) (turn t stands)) (sym refused) in
+    let told = limits_decide (is_in_turn t x) (verdict largest_book x) (refusal_by_book t x) (number_of f.refusal) f.column t (history_with_record t x) (turn_at t intake.stage intake.weather x stands ∙ turn) (sym refused) in
     (record_is x, read, refused_plainly f (number_of f.refusal) refl (verdict_number x (number_of f.refusal) f.column (sym refused)) ∙ sym told.0, subst (λ (y : IntakeHistory). IsStageOf y intake.stage intake.weather) (sym told.1) stands)
 
 -- a record in its turn and within its limits is judged by the book
@@ -126,10 +137,10 @@ book_decides : (b : Bool) (v : Option (ℕ × ℕ)) (later : Option PlacedRefusa
 book_decides b v later turn none = rw (turn, none)
 
 pub record_enters : (bytes : List ℕ) (x : Record) (r : Result (Unit {0}) Fault) (intake new : Intake) → LineRead bytes (Ok x)
-    → ((t : IntakeHistory) → IsStageOf t intake.stage intake.weather → placed_refusal {X = Unit {0}} (Ok tt) ≡ cond (is_in_turn t x) None (Some out_of_turn)) → None ≡ limit.verdict largest_book x
-    → ((t : IntakeHistory) → IsStageOf t intake.stage intake.weather → is_in_turn t x ≡ true → (placed_refusal r ≡ refusal_by_book t x) × IsStageOf (history_unless_refused (refusal_by_book t x) t (history_with_record t x)) new.stage new.weather) → EntersLine bytes r intake new
+    → is_turn_at intake.stage x ≡ true → None ≡ verdict largest_book x
+    → EntersRecord x r intake new → EntersLine bytes r intake new
 record_enters bytes x r intake new read turn within accepts t stands =
-    let now = in_turn_since (is_in_turn t x) (turn t stands) in
-    let done = accepts t stands now in
-    let same = book_decides (is_in_turn t x) (limit.verdict largest_book x) (refusal_by_book t x) now (sym within) in
+    let now = turn_at t intake.stage intake.weather x stands ∙ turn in
+    let done = accepts t stands in
+    let same = book_decides (is_in_turn t x) (verdict largest_book x) (refusal_by_book t x) now (sym within) in
     (record_is x, read, done.0 ∙ same, subst (λ (o : Option PlacedRefusal). IsStageOf (history_unless_refused o t (history_with_record t x)) new.stage new.weather) same done.1)

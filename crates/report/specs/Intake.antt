@@ -1,5 +1,5 @@
 -- An intake holds what its lines amount to.
-use Rattle.std.specs.Prelude.{◌≡◌, ℕ, ◌+◌, ◌*◌, ◌<◌, ◌≤◌, min, true, List, [], length, if◌then◌else◌, Some, None, Ok, Err, Result, vec_len}
+use Rattle.std.specs.Prelude.{◌≡◌, ℕ, ◌+◌, ◌*◌, ◌<◌, ◌≤◌, min, Bool, false, not, List, [], length, None, Ok, Err, Result, vec_len}
 use Rattle.std.specs.Option.{option_map}
 use Rattle.book.specs.Follows.{Beyond, Follows}
 use Rattle.book.specs.declared.lists.Lists.{Lists}
@@ -17,7 +17,7 @@ use Rattle.rules.specs.Calls.{meters}
 use Rattle.rules.specs.History.{History, Setting}
 use Rattle.report.specs.IntakeHistory.{IntakeHistory, history_with_record, largest_book, latest_factors, opened, reading_places, setting_of_opening, unopened}
 use Rattle.report.specs.LineContent.{HasContent, LineContent, history_after_line, last_line_number, line_refusal, reported_answer, reported_refusal}
-use Rattle.report.specs.RecordRefusal.{history_unless_refused, is_in_turn, out_of_turn, placed_refusal, refusal_by_book}
+use Rattle.report.specs.RecordRefusal.{history_unless_refused, is_before_book, placed_refusal, refusal_by_book}
 use Rattle.report.specs.declared.book_days.BookDays.{BookDays}
 use Rattle.report.specs.declared.intake.Intake.{Intake}
 use Rattle.report.specs.declared.opened_book.OpenedBook.{OpenedBook}
@@ -85,26 +85,24 @@ OpensByLine o lists (Err e) = (e.lists ≡ lists) × (HasRoom lists → ⊥)
 abbrev pub KeepsEntries : Intake → Intake → Type 0
 KeepsEntries old new = (new.stage ≡ old.stage) × (new.weather ≡ old.weather)
 
--- a record is refused where it is out of its turn
-abbrev pub JudgesTurn : Record → Result (Unit {0}) Fault → Intake → Type 0
-JudgesTurn x r intake =
-    InEveryStageHistory intake.stage intake.weather
-    (λ t. placed_refusal r ≡ (if is_in_turn t x then None else Some out_of_turn))
+-- a record comes in its turn at a stage
+abbrev pub is_turn_at : Stage → Record → Bool
+is_turn_at (stage.Unopened lists) x = is_before_book x
+is_turn_at stage.Opening x = false
+is_turn_at (stage.Opened o) x = not (is_before_book x)
 
--- a record in its turn is accepted
+-- a record is accepted
 abbrev pub AcceptsRecord : Record → Result (Unit {0}) Fault
     → Stage → ByWeather → Stage → ByWeather → Type 0
 AcceptsRecord x r stage w stage' w' =
     InEveryStageHistory stage w
-    (λ t. is_in_turn t x ≡ true
-    → (placed_refusal r ≡ None) × IsStageOf (history_with_record t x) stage' w')
+    (λ t. (placed_refusal r ≡ None) × IsStageOf (history_with_record t x) stage' w')
 
--- a record in its turn is entered, or refused as the book refuses it
+-- a record is entered, or refused as the book refuses it
 abbrev pub EntersRecord : Record → Result (Unit {0}) Fault → Intake → Intake → Type 0
 EntersRecord x r old new =
     InEveryStageHistory old.stage old.weather
-    (λ t. is_in_turn t x ≡ true
-    → (placed_refusal r ≡ refusal_by_book t x)
+    (λ t. (placed_refusal r ≡ refusal_by_book t x)
     × IsStageOf (history_unless_refused (refusal_by_book t x) t (history_with_record t x))
     new.stage new.weather)
 

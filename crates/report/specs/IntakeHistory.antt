@@ -1,7 +1,7 @@
 -- What the lines accepted so far amount to.
 use Rattle.std.specs.Prelude.{ℕ, ◌+◌, List, [], ◌∷◌, if◌then◌else◌, Some, None, Option, ◌==◌, nat_lt}
 use Rattle.std.specs.Option.{option_map}
-use Rattle.book.specs.Replies as books
+use Rattle.book.specs.Replies.{after}
 use Rattle.calendar.specs.Digits.{date_numbered, day_number_of}
 use Rattle.estimates.specs.Factors.{weather_figure}
 use Rattle.estimates.specs.declared.factors.Factors as weather
@@ -85,7 +85,7 @@ call_of_record (of.Reading r) =
 -- a book's history with a call, if there is one
 abbrev pub history_with_call : Setting → History → Option Call → History
 history_with_call s h None = h
-history_with_call s h (Some c) = books.after s h c
+history_with_call s h (Some c) = after s h c
 
 -- with a record that is accepted: its factors before the others, a book opened, or the book's
 -- history with its call

@@ -1,18 +1,19 @@
-ghost use Rattle.std.specs.Prelude.{◌≡◌, IfOk, OnErr, false};
+ghost use Rattle.std.specs.Prelude.{◌≡◌, true, None, IfOk, OnErr, Option, if◌then◌else◌};
 ghost use Rattle.line_format.specs.declared.record.Record.TheVariants as of;
-ghost use Rattle.report.specs.Intake.{AcceptsRecord, InEveryHistory, EntersLine, EntersRecord, IsIntakeOf, JudgesTurn, KeepsEntries, TakesLine};
+ghost use Rattle.report.specs.Intake.{AcceptsRecord, EntersLine, EntersRecord, InEveryHistory, IsIntakeOf, KeepsEntries, TakesLine, is_turn_at};
 ghost use Rattle.report.specs.IntakeHistory.{call_of_record, day_count_of, initial_history, reported_day};
-ghost use Rattle.report.specs.RecordRefusal.{IsWithinLimits, is_before_book};
+ghost use Rattle.report.specs.RecordRefusal.{IsWithinLimits, is_before_book, out_of_turn, placed_refusal};
 
 use super::day_line::DayLine;
 use super::opened_book::LARGEST_BOOK;
-use super::stage::{OUT_OF_TURN, Stage};
+use super::stage::Stage;
 use book::Lists;
 use estimates::{ByWeather, Factors};
 use line_format::{self, Fault, LineFault, Record, check_limits, on_line, read_line};
 use rules::{Call, Delivery};
 use std::alloc::{AllocError, Global};
 use std::mem;
+use terms::Refusal;
 
 // The meters of a day's interval energies, as the ledger has them.
 const METERS: usize = 32;
@@ -22,6 +23,12 @@ const READING_PLACES: usize = 256;
 
 // No line has a larger number: all later ones share it.
 const LAST_LINE_NUMBER: u64 = 9_999_999_999;
+
+// A record whose turn is over, or has not come.
+const OUT_OF_TURN: Fault = Fault {
+    refusal: Refusal::OutOfTurn,
+    column: 1,
+};
 
 /// The lines of one input, as they are entered: how many came, the estimator by weather, and the
 /// book once it is opened.
@@ -40,43 +47,6 @@ fn is_before_book(record: &Record) -> bool
     ensures { result ≡ is_before_book «record».now }
 {
     matches!(record, Record::Opening(_) | Record::Factors(_))
-}
-
-// The call that enters a record into a book, if it is one for a book. Within the limits every
-// number is a small one.
-fn call_of(record: &Record) -> Option<Call>
-    requires { IsWithinLimits «record».now }
-    ensures { result ≡ call_of_record «record».now }
-{
-    match *record {
-        Record::Opening(_) | Record::Factors(_) => None,
-        Record::Enrolment(enrolment) => Some(Call::Enrol {
-            point: enrolment.point as u32,
-            retailer: enrolment.retailer as u32,
-            start: enrolment.start,
-        }),
-        Record::GateDay(gate) => Some(Call::EnterGate {
-            date: gate.date,
-            energy_in: gate.energy_in,
-            energy_out: gate.energy_out,
-        }),
-        Record::IntervalEnergy(interval) => Some(Call::EnterInterval {
-            date: interval.date,
-            meter: interval.meter as u32,
-            energy: interval.energy,
-        }),
-        Record::DegreeDays(degrees) => Some(Call::EnterDegreeDays {
-            date: degrees.date,
-            count: degrees.count as u32,
-        }),
-        Record::Reading(reading) => Some(Call::EnterReading(Delivery {
-            point: reading.point as u32,
-            start: reading.start,
-            end: reading.end,
-            energy: reading.energy,
-            reading_type: reading.reading_type,
-        })),
-    }
 }
 
 impl Intake {
@@ -128,7 +98,8 @@ impl Intake {
 
     // Refuses a record that is out of its turn.
     fn judge_turn(&self, record: &Record) -> Result<(), Fault>
-        ensures { JudgesTurn «record».now result self.now }
+        ensures { placed_refusal result
+            ≡ (if is_turn_at self.now.stage «record».now then None else Option.Some out_of_turn) }
     {
         let is_before_book = is_before_book(record);
         match (&self.stage, is_before_book) {
@@ -137,9 +108,10 @@ impl Intake {
         }
     }
 
-    // Enters a record that comes in its turn and is within its limits.
+    // Enters a record in its turn and within its limits, so that every number is a small one.
     fn accept(&mut self, record: &Record) -> Result<(), Fault>
-        requires { IsWithinLimits «record».now }
+        requires within { IsWithinLimits «record».now }
+        requires turn { is_turn_at self.old.stage «record».now ≡ true }
         ensures lines { self.new.lines ≡ self.old.lines }
         ensures refused { OnErr result (self.new ≡ self.old) }
         ensures law { EntersRecord «record».now result self.old self.new }
@@ -147,13 +119,54 @@ impl Intake {
         match *record {
             Record::Factors(factors) => self.enter_factors(factors),
             Record::Opening(opening) => self.open(opening),
-            _ => self.enter_call(record),
+            Record::Enrolment(enrolment) => {
+                let call = Call::Enrol {
+                    point: enrolment.point as u32,
+                    retailer: enrolment.retailer as u32,
+                    start: enrolment.start,
+                };
+                self.enter_call(record, call)
+            }
+            Record::GateDay(gate) => {
+                let call = Call::EnterGate {
+                    date: gate.date,
+                    energy_in: gate.energy_in,
+                    energy_out: gate.energy_out,
+                };
+                self.enter_call(record, call)
+            }
+            Record::IntervalEnergy(interval) => {
+                let call = Call::EnterInterval {
+                    date: interval.date,
+                    meter: interval.meter as u32,
+                    energy: interval.energy,
+                };
+                self.enter_call(record, call)
+            }
+            Record::DegreeDays(degrees) => {
+                let call = Call::EnterDegreeDays {
+                    date: degrees.date,
+                    count: degrees.count as u32,
+                };
+                self.enter_call(record, call)
+            }
+            Record::Reading(reading) => {
+                let call = Call::EnterReading(Delivery {
+                    point: reading.point as u32,
+                    start: reading.start,
+                    end: reading.end,
+                    energy: reading.energy,
+                    reading_type: reading.reading_type,
+                });
+                self.enter_call(record, call)
+            }
         }
     }
 
-    // Enters factors within their limits.
+    // Enters factors within their limits, before there is a book.
     fn enter_factors(&mut self, factors: line_format::Factors) -> Result<(), Fault>
-        requires { IsWithinLimits (of.Factors factors) }
+        requires within { IsWithinLimits (of.Factors factors) }
+        requires turn { is_turn_at self.old.stage (of.Factors factors) ≡ true }
         ensures lines { self.new.lines ≡ self.old.lines }
         ensures refused { OnErr result (self.new ≡ self.old) }
         ensures law { AcceptsRecord (of.Factors factors) result
@@ -172,7 +185,8 @@ impl Intake {
     // Never inlined: a book is made here, and every line would touch a stack of its size.
     #[inline(never)]
     fn open(&mut self, opening: line_format::Opening) -> Result<(), Fault>
-        requires { IsWithinLimits (of.Opening opening) }
+        requires within { IsWithinLimits (of.Opening opening) }
+        requires turn { is_turn_at self.old.stage (of.Opening opening) ≡ true }
         ensures lines { self.new.lines ≡ self.old.lines }
         ensures refused { OnErr result (self.new ≡ self.old) }
         ensures law { AcceptsRecord (of.Opening opening) result
@@ -185,18 +199,17 @@ impl Intake {
     }
 
     // Enters a record by its call on the book.
-    fn enter_call(&mut self, record: &Record) -> Result<(), Fault>
-        requires { IsWithinLimits «record».now }
+    fn enter_call(&mut self, record: &Record, call: Call) -> Result<(), Fault>
+        requires call { call_of_record «record».now ≡ Option.Some call }
+        requires turn { is_turn_at self.old.stage «record».now ≡ true }
         ensures lines { self.new.lines ≡ self.old.lines }
         ensures refused { OnErr result (self.new ≡ self.old) }
-        ensures law { is_before_book «record».now ≡ false
-            → EntersRecord «record».now result self.old self.new }
+        ensures law { EntersRecord «record».now result self.old self.new }
     {
-        let call = call_of(record).ok_or(OUT_OF_TURN)?;
-        let Stage::Opened(opened) = &mut self.stage else {
-            return Err(OUT_OF_TURN);
-        };
-        opened.enter(&mut self.weather, record, call)
+        match &mut self.stage {
+            Stage::Opened(opened) => opened.enter(&mut self.weather, record, call),
+            _ => unreachable!(),
+        }
     }
 
     /// How many days the book has; 0 before it is opened.

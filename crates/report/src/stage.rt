@@ -1,19 +1,12 @@
-ghost use Rattle.std.specs.Prelude.{◌≡◌, OnErr};
+ghost use Rattle.std.specs.Prelude.{◌≡◌, true, OnErr};
 ghost use Rattle.estimates.specs.declared.by_weather.ByWeather.{ByWeather};
 ghost use Rattle.line_format.specs.declared.record.Record.TheVariants as of;
-ghost use Rattle.report.specs.Intake.{AcceptsRecord};
+ghost use Rattle.report.specs.Intake.{AcceptsRecord, is_turn_at};
 ghost use Rattle.report.specs.RecordRefusal.{IsWithinLimits};
 
 use super::opened_book::OpenedBook;
 use book::{Lists, Unopened};
 use line_format::{Fault, Opening};
-use terms::Refusal;
-
-// A record whose turn is over, or has not come.
-pub(crate) const OUT_OF_TURN: Fault = Fault {
-    refusal: Refusal::OutOfTurn,
-    column: 1,
-};
 
 // How far an intake has come: before the opening it has the lists in whose memory the book will be
 // kept, from it on the book.
@@ -28,7 +21,8 @@ pub(crate) enum Stage {
 impl Stage {
     // The stage after an opening within its limits. A refused opening leaves it as it is.
     pub(crate) fn open(self, opening: Opening) -> (Stage, Result<(), Fault>)
-        requires { IsWithinLimits (of.Opening opening) }
+        requires within { IsWithinLimits (of.Opening opening) }
+        requires turn { is_turn_at self (of.Opening opening) ≡ true }
         ensures refused { OnErr result.1 (result.0 ≡ self) }
         ensures law { (w : ByWeather) → AcceptsRecord (of.Opening opening) result.1 self w result.0 w }
     {
@@ -39,7 +33,7 @@ impl Stage {
                     (Stage::Unopened(lists), Err(Fault { refusal, column: 5 }))
                 }
             },
-            other => (other, Err(OUT_OF_TURN)),
+            _ => unreachable!(),
         }
     }
 }
