@@ -64,9 +64,7 @@ impl OpenedBook {
     {
         let mut answers = [Ok(Answer::Accepted)];
         // There is room for the one answer.
-        self.book
-            .serve(weather, &[call], &mut answers)
-            .map_err(|refusal| Fault { refusal, column: 1 })?;
+        self.book.serve(weather, &[call], &mut answers).unwrap();
         let [answer] = answers;
         match answer {
             Ok(_) => Ok(()),
