@@ -33,8 +33,8 @@ pub record HasRoom (lists : Lists) : Type 0 where
 -- an estimator by weather with these factors and no count
 pub record HasFactors (fs : List Factors) (w : ByWeather) : Type 0 where
   pub table : length w.factors ≡ last_point
-  pub factors : (p : ℕ) → factors_of w p ≡ latest_factors fs p
-  pub counts : (d : ℕ) → count_of w d ≡ None
+  pub factors : (point : ℕ) → factors_of w point ≡ latest_factors fs point
+  pub counts : (place : ℕ) → count_of w place ≡ None
 
 -- the days of a book, which ends in time
 pub record IsDaysOf (s : Setting) (own : BookDays) : Type 0 where

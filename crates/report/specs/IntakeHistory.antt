@@ -37,21 +37,23 @@ reading_places = 256
 
 -- the latest factors of a point
 abbrev pub latest_factors : List Factors → ℕ → Option weather.Factors
-latest_factors [] p = None
-latest_factors (f ∷ fs) p =
-    if f.point == p
+latest_factors [] point = None
+latest_factors (f ∷ fs) point =
+    if f.point == point
     then Some (record { base_load = f.base_load; sensitivity = f.sensitivity })
-    else latest_factors fs p
+    else latest_factors fs point
 
 -- the figure by weather of a point under a count, on a day of any book; a point without factors has
 -- none
 abbrev pub weather_meaning : List Factors → ℕ → Meaning
-weather_meaning fs count p d =
-    if weather_within d count then option_map (λ f. weather_figure f count) (latest_factors fs p) else None
+weather_meaning fs count point place =
+    if weather_within place count
+    then option_map (λ f. weather_figure f count) (latest_factors fs point)
+    else None
 
 -- before any count has come there is no figure
 abbrev pub no_figure : Meaning
-no_figure p d = None
+no_figure point place = None
 
 -- the setting of the book that a line opens after these factors
 abbrev pub setting_of_opening : List Factors → Opening → Setting
