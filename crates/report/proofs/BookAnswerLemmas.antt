@@ -1,4 +1,4 @@
--- One call on the book of an intake: its answer, and the history after it. Assumes nothing.
+-- One call on the book of an intake: how it is answered, and the history then. Assumes nothing.
 use Rattle.std.proofs.Common.{◌≡◌, ℕ, ◌+◌, ◌-◌, ◌<◌, ◌≤◌, Bool, true, false, T, cond, not, List, [], ◌∷◌, map, take, get_or, is_some, Some, None, Ok, Err, Option, Result, sym, refl, ap, ◌∙◌, arith}
 use Rattle.std.specs.Option.{option_map, unwrap_or}
 use Rattle.std.specs.Result.{result_ok}

@@ -55,7 +55,7 @@ weather_meaning fs count point place =
 abbrev pub no_figure : Meaning
 no_figure point place = None
 
--- the setting of the book that a line opens after these factors
+-- the setting of the book that a line opens, given these factors
 abbrev pub setting_of_opening : List Factors → Opening → Setting
 setting_of_opening fs o = record {
   first = day_number_of o.first_date;
