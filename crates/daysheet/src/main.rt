@@ -45,7 +45,8 @@ fn answer_words(rt: &HostRuntime, error: &clap::Error) -> anyhow::Result<ExitCod
     Ok(ExitCode::from(2))
 }
 
-// Reads the files in their order, as if they stood in one, or standard input where there is none, and prints the report.
+// Reads the files in their order, as if they stood in one, or standard input where there is none,
+// and prints the report.
 fn report_files(rt: &HostRuntime, paths: &[&str]) -> anyhow::Result<ExitCode> {
     let heap = rt.alloc();
     let mut feed = Feed::new(heap)?;
