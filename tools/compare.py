@@ -406,7 +406,7 @@ def take_times(programs, rounds):
 
 def try_usage(program):
     """What only the program has: its words, its files, its failures, and that nothing waits while input does."""
-    failed = []
+    program, failed = os.path.abspath(program), []
 
     def hold(name, holds):
         print(("ok    " if holds else "FAILED ") + name)
@@ -431,7 +431,21 @@ def try_usage(program):
             ran = run(*paths, stdin=subprocess.DEVNULL)
             hold(f"two files cut at byte {cut} are one input", (ran.returncode, ran.stdout) == whole)
         ran = run("--help", stdin=subprocess.DEVNULL)
-        hold("--help says how it is used", ran.returncode == 0 and b"FAIL" in ran.stdout and not ran.stderr)
+        usage = ran.stdout
+        says = all(word in usage for word in (b"daysheet [FILE]", b"FAIL", b"DAY", b"OPEN", b"  13  ", b"--version"))
+        hold("--help says how it is used", ran.returncode == 0 and says and not ran.stderr)
+        for words in (["-h"], ["missing", "--help"], ["--nope", "--help"], ["--", "--help"]):
+            ran = run(*words, input=text)
+            hold(f"{' '.join(words)} says the same and reads nothing", (ran.returncode, ran.stdout, ran.stderr) == (0, usage, b""))
+        ran = run("--version", stdin=subprocess.DEVNULL)
+        hold("--version: one line", ran.returncode == 0 and is_one_line(ran.stdout) and not ran.stderr)
+        with open(os.path.join(folder, "--help"), "wb") as file:
+            file.write(text)
+        ran = run("./--help", stdin=subprocess.DEVNULL, cwd=folder)
+        hold("./--help is a file", (ran.returncode, ran.stdout) == whole)
+        for words in (["--nope"], ["-x", "a"], ["a", "--nope"]):
+            ran = run(*words, stdin=subprocess.DEVNULL)
+            hold(f"{' '.join(words)}: status 2, one line", ran.returncode == 2 and not ran.stdout and is_one_line(ran.stderr))
         ran = run(os.path.join(folder, "missing"), stdin=subprocess.DEVNULL)
         hold("a file that is not there: status 1, one line", ran.returncode == 1 and not ran.stdout and is_one_line(ran.stderr))
         ran = run(folder, stdin=subprocess.DEVNULL)

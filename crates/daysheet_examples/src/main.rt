@@ -1,4 +1,4 @@
-// The shipped examples: the report of each input is held to the one that lies beside it.
+//! The shipped examples: the report of each input is held to the one that lies beside it.
 #![tactic(auto)]
 
 use report::report;

@@ -1,13 +1,12 @@
-pub mod Cutting
-pub mod Keeping
-mod Holding
-mod Padding
-pub mod Factors
-pub mod Opening
-pub mod Entering
-pub mod Served
-pub mod DayShown
-pub mod DayLines
-pub mod Once
-pub mod Reading
-pub mod Reporting
+pub mod LineCuttingLemmas
+pub mod LineStartLemmas
+pub mod ReportLineLemmas
+pub mod FactorsLemmas
+pub mod OpeningLemmas
+pub mod LineEntryLemmas
+pub mod BookAnswerLemmas
+pub mod ReportedDayLemmas
+pub mod DayLineLemmas
+pub mod OneReportLemmas
+pub mod ReadingLemmas
+pub mod FeedLemmas

@@ -1,13 +1,17 @@
 ghost use Rattle.std.specs.Prelude.{Some};
-ghost use Rattle.report.specs.Texts.{day_text};
+ghost use Rattle.report.specs.ReportLines.{day_text};
 
 use sheet::DayFigures;
 use std::fmt;
 
-// The line of a day with a load, without its line feed.
+/// The line of a day with a load in a report, without its line feed: `DAY`, and in ten columns each
+/// the date and the day's account in MJ: load, supplied, generated, remainder, excess, and the
+/// count of missing estimates.
 #[derive(Clone, Copy, PartialEq, Eq, Debug)]
 pub struct DayLine {
+    /// The date, as 20240701.
     pub date: u32,
+    /// The account of the day.
     pub figures: DayFigures,
 }
 

@@ -1,10 +1,12 @@
 ghost use Rattle.std.specs.Prelude.{Some};
-ghost use Rattle.report.specs.Texts.{fault_text};
+ghost use Rattle.report.specs.ReportLines.{fault_text};
 
 use line_format::LineFault;
 use std::fmt;
 
-// The line of a refusal, without its line feed.
+/// The line of a refusal in a report, without its line feed: `FAIL`, and in ten columns each the
+/// number of the refused line, the layer, the number of the refusal, the first column of the
+/// leftmost field at fault, and the date of the day that the refusal names, or 0.
 #[derive(Clone, Copy, PartialEq, Eq, Debug)]
 pub struct FailLine(pub LineFault);
 

@@ -1,29 +1,31 @@
-// Bytes that come in pieces of any size, cut into lines. Of a line no more is kept than tells what it says.
-// The lines of a report: one for each refusal, and one for each day with a load.
-// Lines into a book: factors before the one accepted opening, all that a book is told after it, and what of it is refused.
-// The whole way from the bytes of an input to the bytes of its report.
+//! From the bytes of an input to the bytes of its report.
+//!
+//! An input is lines of 45 columns and a line feed, as `line_format` reads them: factors of points,
+//! the opening of a book, and all that the book is given from then on. A [`Feed`] takes bytes in
+//! pieces of any size, cuts them into lines, enters each into an [`Intake`], and writes one line
+//! for each that is refused, as it is met. At the end of the input it writes one line for each day
+//! of the book that has a load.
+//!
+//! What is proved: the text that is written is the report of the bytes that came, however they were
+//! cut into pieces, and an input has one report. A refused line changes nothing. The memory of a
+//! book is taken once, before the first line, and of a line no more is kept than tells what it
+//! says.
 #![tactic(auto)]
 
-mod accept;
-mod calls;
-mod columns;
+mod book_days;
 mod day_line;
-mod days;
 mod fail_line;
 mod feed;
+mod input_report;
 mod intake;
-mod laws;
 mod line_start;
-mod opened;
-mod run;
+mod opened_book;
 mod stage;
-mod turns;
 
 pub use day_line::DayLine;
 pub use fail_line::FailLine;
 pub use feed::Feed;
+pub use input_report::{each_input_has_one_report, report};
 pub use intake::Intake;
-pub use laws::each_input_has_one_report;
 pub use line_format::LineFault;
 pub use line_start::LineStart;
-pub use run::report;

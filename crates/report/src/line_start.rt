@@ -1,75 +1,64 @@
-ghost use Rattle.std.specs.Prelude.{◌≡◌, ◌≤◌, ℕ, List, [], ◌∷◌, ◌++◌, length, take, ◌==◌};
-ghost use Rattle.report.specs.Kept.{kept};
+ghost use Rattle.std.specs.Prelude.{◌≡◌, ℕ, List, [], ◌∷◌, ◌++◌, length, ◌==◌};
+ghost use Rattle.report.specs.LineStart.{line_start};
 
+use arrayvec::ArrayVec;
 use std::marker::Model;
 
-// How many bytes of a line are kept at most: one more than a line has.
-const MOST: usize = 47;
+// One byte more than a line has.
+const SIZE: usize = 47;
 
-// The start of a line that has begun: its first bytes, and no more than tell what it says.
+/// The start of a line that has no end yet: its first 47 bytes at most, which tell what it says.
+///
+/// A line has 46 bytes. Of a longer one the start tells that it is too long, and all later bytes
+/// are let go.
 #[derive(Debug, Drop)]
 pub struct LineStart {
-    bytes: [u8; MOST],
-    count: usize,
+    bytes: ArrayVec<u8, SIZE>,
 }
 
 impl Model for LineStart {
     ghost Value = { List ℕ };
 
-    ghost view = { λ s. take s.count s.bytes };
-
-    ghost invariant = { λ s. s.count ≤ 47 };
+    ghost view = { λ s. s.bytes.items };
 }
 
 impl LineStart {
-    // No byte yet.
+    /// The start of a line with no byte.
     pub fn new() -> LineStart
         ensures { result ≡ [] }
     {
         LineStart {
-            bytes: [0; MOST],
-            count: 0,
+            bytes: ArrayVec::new(),
         }
     }
 
-    // One more byte of the line, kept where there is room.
+    /// Adds the next byte of the line, if there is room for it.
     pub fn push(&mut self, byte: u8)
-        ensures { self.new ≡ kept (self.old ++ byte ∷ []) }
+        ensures { self.new ≡ line_start (self.old ++ byte ∷ []) }
     {
-        if self.count < MOST {
-            self.bytes[self.count] = byte;
-            self.count += 1;
+        if !self.bytes.is_full() {
+            self.bytes.push(byte);
         }
     }
 
-    // More bytes of the line, those kept for which there is room.
-    pub fn extend(&mut self, piece: &[u8])
-        ensures { self.new ≡ kept (self.old ++ piece.now) }
-    {
-        let taken = piece.len().min(MOST - self.count);
-        let end = self.count + taken;
-        self.bytes[self.count..end].copy_from_slice(&piece[..taken]);
-        self.count = end;
-    }
-
-    // The bytes that are kept.
+    /// The bytes, in their order.
     pub fn bytes(&self) -> &[u8]
         ensures { result.now ≡ self.now }
     {
-        &self.bytes[..self.count]
+        self.bytes.as_slice()
     }
 
-    // Whether the line has no byte yet.
+    /// Whether the line has no byte.
     pub fn is_empty(&self) -> bool
         ensures { result ≡ (length self.now == 0) }
     {
-        self.count == 0
+        self.bytes.is_empty()
     }
 
-    // Begins anew, with no byte.
+    /// Begins another line, with no byte.
     pub fn clear(&mut self)
         ensures { self.new ≡ [] }
     {
-        self.count = 0;
+        self.bytes.clear();
     }
 }

@@ -1,7 +1,7 @@
 // A read or a write that fails ends the report with its error, and nothing more is read or written.
-use super::books::TWO_DAYS;
 use super::inputs::{filled, report_of};
 use super::readers::{Step, Steps};
+use super::reported_inputs::TWO_DAYS;
 use super::writers::Narrow;
 use report::report;
 use std::io::ErrorKind;

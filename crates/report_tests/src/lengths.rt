@@ -1,6 +1,6 @@
 // Lines of wrong length: nothing else of them is looked at.
-use super::books::TWO_DAYS;
 use super::inputs::{filled, report_of};
+use super::reported_inputs::TWO_DAYS;
 use super::rows::{check_rows, no_line};
 use std::test::Fail;
 

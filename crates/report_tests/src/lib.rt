@@ -1,20 +1,21 @@
-// Tests of the way from the bytes of an input to the bytes of its report: it is proved in its own crates, and only run here.
+//! Tests of the way from the bytes of an input to the bytes of its report, which `report` proves: the shape of each line,
+//! each refusal with its column, and readers and writers that fail, wait or give little.
 #![tactic(auto)]
 
 #[cfg(test)]
-mod beyond;
-#[cfg(test)]
-mod books;
+mod book_refusals;
 #[cfg(test)]
 mod draws;
 #[cfg(test)]
-mod failures;
+mod early_writes;
 #[cfg(test)]
-mod held;
+mod failures;
 #[cfg(test)]
 mod inputs;
 #[cfg(test)]
 mod lengths;
+#[cfg(test)]
+mod limits;
 #[cfg(test)]
 mod malformed;
 #[cfg(test)]
@@ -22,14 +23,14 @@ mod noise;
 #[cfg(test)]
 mod pieces;
 #[cfg(test)]
-mod places;
-#[cfg(test)]
 mod readers;
 #[cfg(test)]
+mod reading_places;
+#[cfg(test)]
+mod record_order;
+#[cfg(test)]
+mod reported_inputs;
+#[cfg(test)]
 mod rows;
-#[cfg(test)]
-mod turns;
-#[cfg(test)]
-mod waiting;
 #[cfg(test)]
 mod writers;

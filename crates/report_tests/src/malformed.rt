@@ -1,5 +1,5 @@
 // Lines that are malformed in a field, the tag or the letter: the leftmost is named.
-use super::books::TWO_DAYS;
+use super::reported_inputs::TWO_DAYS;
 use super::rows::{accepted, check_rows, malformed, no_line, refused};
 use std::test::Fail;
 

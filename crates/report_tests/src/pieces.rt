@@ -1,7 +1,7 @@
 // The report of an input does not depend on the pieces in which it is read.
-use super::books::TWO_DAYS;
 use super::inputs::{filled, report_of};
 use super::readers::{Drips, OneLine, Step, Steps};
+use super::reported_inputs::TWO_DAYS;
 use report::{Feed, report};
 use std::alloc::{AllocError, Global};
 use std::io::ErrorKind;

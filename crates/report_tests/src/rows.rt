@@ -1,6 +1,6 @@
 // Tables of lines, each with what is reported of it after an input.
-use super::books::Told;
 use super::inputs::{filled, push_line, report_of};
+use super::reported_inputs::ReportedInput;
 use std::alloc::{AllocError, Global};
 use std::process::Abort;
 use std::test::Fail;
@@ -83,8 +83,12 @@ impl Line {
 }
 
 // What is reported where a line is refused that comes last: what was reported before, its refusal, and the days as they were.
-fn report_with(heap: Global, told: &Told, refused: Reported) -> Result<String, AllocError> {
-    let line = told.lines.lines().count().saturating_add(1);
+fn report_with(
+    heap: Global,
+    before: &ReportedInput,
+    refused: Reported,
+) -> Result<String, AllocError> {
+    let line = before.lines.lines().count().saturating_add(1);
     let Reported {
         layer,
         number,
@@ -93,29 +97,29 @@ fn report_with(heap: Global, told: &Told, refused: Reported) -> Result<String, A
     } = refused;
     format!(in heap;
         "{}FAIL{line:>10}{layer:>10}{number:>10}{column:>10}{day:>10}\n{}",
-        told.refusals, told.days
+        before.refusals, before.days
     )
 }
 
-// Each line of a table alone, after what was told: a refused one is reported as the table has it and changes nothing else;
+// Each line of a table alone, after an input: a refused one is reported as the table has it and changes nothing else;
 // of an accepted one no refusal is reported.
 pub(crate) fn check_rows(
     rt: &(impl Abort + AllocGlobal),
-    told: &Told,
+    before: &ReportedInput,
     rows: &[Row],
 ) -> Result<(), Fail> {
     let heap = rt.alloc();
     for (i, row) in rows.iter().enumerate() {
-        let mut input = filled(heap, told.lines)?;
+        let mut input = filled(heap, before.lines)?;
         row.line.push_to(&mut input)?;
         let text = report_of(heap, input.as_slice())?;
         match row.refused {
             Some(refused) => {
-                let wanted = report_with(heap, told, refused)?;
+                let wanted = report_with(heap, before, refused)?;
                 assert_eq!(rt; text.as_slice(), wanted.as_bytes(), "row {i}");
             }
             None => {
-                let rest = text.as_slice().strip_prefix(told.refusals.as_bytes());
+                let rest = text.as_slice().strip_prefix(before.refusals.as_bytes());
                 let is_accepted = rest.is_some_and(|rest| !rest.starts_with(b"FAIL"));
                 assert!(rt; is_accepted, "row {i}");
             }

@@ -1,8 +1,8 @@
 use Rattle.std.proofs.Output.{has_written_of_eq}
 use Rattle.std.proofs.lemmas.List.{append-nil}
-use Rattle.report.specs.Texts.{fail_text}
-use Rattle.report.proofs.Padding.{in_ten}
+use Rattle.report.proofs.ReportLineLemmas.{in_ten}
 use Rattle.report.proofs.fail_line.FailLineDisplay.fmt.Goals as goal
+use Rattle.report.specs.ReportLines.{fail_text}
 
 pub returns-clause-writes : goal.returns-clause-writes
 unfolding fail_text

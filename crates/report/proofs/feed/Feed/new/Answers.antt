@@ -1,5 +1,5 @@
-use Rattle.report.proofs.Reporting.{nothing_yet}
+use Rattle.report.proofs.FeedLemmas.{nothing_yet}
 use Rattle.report.proofs.feed.Feed.new.Goals as goal
 
 pub returns : goal.returns
-returns c = nothing_yet _ c.in_ok-intake.ensures c.new-begun.ensures
+returns c = nothing_yet _ c.in_ok-intake.ensures c.new-line.ensures

@@ -1,5 +1,5 @@
 use Rattle.std.proofs.Common.{arith}
-use Rattle.report.proofs.Reading.{at_start, last_piece, one_piece}
+use Rattle.report.proofs.ReadingLemmas.{at_start, last_piece, one_piece}
 use Rattle.report.proofs.feed.Feed.read.Goals as goal
 
 pub loop-init : goal.loop-init

@@ -1,5 +1,5 @@
 use Rattle.std.proofs.Common.{◌<◌, vec_len}
-use Rattle.report.proofs.Reading.{Halfway}
+use Rattle.report.proofs.ReadingLemmas.{Halfway}
 use Rattle.report.proofs.feed.Feed.read.Given as goal
 
 -- there is room for a piece, and the bytes so far were taken

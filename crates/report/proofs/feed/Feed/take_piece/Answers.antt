@@ -1,5 +1,5 @@
 use Rattle.std.proofs.Common.{take}
-use Rattle.report.proofs.Reading.{writes_after}
+use Rattle.report.proofs.ReadingLemmas.{writes_after}
 use Rattle.report.proofs.feed.Feed.take_piece.Goals as goal
 
 pub returns : goal.returns

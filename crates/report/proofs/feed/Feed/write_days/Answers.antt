@@ -1,7 +1,7 @@
 use Rattle.std.proofs.Common.{List, ℕ, sym, subst}
 use Rattle.std.proofs.KnownBytes.{Appends-trans}
 use Rattle.std.specs.Io.KnownBytes.{Appends}
-use Rattle.report.proofs.DayLines.{days_before, days_more}
+use Rattle.report.proofs.DayLineLemmas.{days_before, days_more}
 use Rattle.report.proofs.feed.Feed.write_days.Goals as goal
 
 pub loop-day-preserved : goal.loop-day-preserved
