@@ -19,7 +19,7 @@ use Rattle.sheet.specs.declared.day_figures.DayFigures.{DayFigures}
 use Rattle.sheet.specs.declared.state.Sheet.{Sheet}
 use Rattle.book.specs.Book.{IsAnsweredByLaw, IsBookOf, IsServedByLaw}
 use Rattle.book.specs.Case.{Case, case_after_call}
-use Rattle.book.specs.Days.{TellsAccount, TellsSum, account_named, names_none}
+use Rattle.book.specs.Days.{account_named, account_refusal, day_refusal, names_none}
 use Rattle.book.specs.Meanings.{Meanings}
 use Rattle.book.specs.Replies.{IsJudgedBy, Reply, answer_reply, day_is, granted_reply, lengthened_history, reply_of, sum_is}
 use Rattle.book.specs.declared.book.Book.{Book}
@@ -90,7 +90,7 @@ granted_account s h day true false r within some judged = absurd (false≢true s
 granted_account s h day true true (Ok x) within some judged = ap day_is judged.1
 granted_account s h day true true (Err e) within some judged = absurd (false≢true (ap is_some judged.0))
 
-pub account_granted : (c : Case) (date day : ℕ) (r : Result DayFigures Refusal) → refusal c.setting c.history (AskDay date) ≡ None → day ≡ place c.setting date → TellsAccount day r c
+pub account_granted : (c : Case) (date day : ℕ) (r : Result DayFigures Refusal) → refusal c.setting c.history (AskDay date) ≡ None → day ≡ place c.setting date → IsJudgedBy (account_refusal c.setting c.history day) (account_named c.setting day) (λ x. x ≡ account c.setting c.history day (unwrap_or (load c.setting c.history day) 0)) r
     → reply_of day_is r ≡ granted_reply c.setting c.history (AskDay date)
 account_granted c date day r none is told =
     let s = c.setting in
@@ -107,7 +107,7 @@ granted_sum sum false r within judged = absurd (false≢true within)
 granted_sum sum true (Ok x) within judged = ap sum_is judged.1
 granted_sum sum true (Err e) within judged = absurd (false≢true (ap is_some judged.0))
 
-pub sum_granted : (c : Case) (k date day : ℕ) (r : Result ℕ Refusal) → refusal c.setting c.history (AskRetailer k date) ≡ None → day ≡ place c.setting date → TellsSum k day r c
+pub sum_granted : (c : Case) (k date day : ℕ) (r : Result ℕ Refusal) → refusal c.setting c.history (AskRetailer k date) ≡ None → day ≡ place c.setting date → IsJudgedBy (day_refusal c.setting day) names_none (λ x. x ≡ retailer_sum c.setting c.history k day) r
     → reply_of sum_is r ≡ granted_reply c.setting c.history (AskRetailer k date)
 sum_granted c k date day r none is told =
     let s = c.setting in

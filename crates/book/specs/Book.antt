@@ -39,15 +39,14 @@ pub record IsBookOf (c : Case) (b : Book) (m : Meanings) : Type 0 where
   pub estimates : Estimates c.setting c.history m.figures
   pub weather : (count p d : ℕ) → m.under count p d ≡ c.setting.weather count p d
 
--- P holds of every case that the book is kept in, beside an estimator that means this, and whatever the estimator means
+-- P holds of every case that the book is kept in beside an estimator that means this
 abbrev pub InEveryCase : Book → Meanings → (Case → Type 0) → Type 0
 InEveryCase b m P = (c : Case) → IsBookOf c b m → P c
 
-abbrev pub InEveryCaseBesideAny : Book → (Case → Type 0) → Type 0
-InEveryCaseBesideAny b P = (m : Meanings) → InEveryCase b m P
-
 -- a call is served: in every case its answer is the reply due, and the book then is that of the case after the call
-pub record IsServedByLaw {X : Type 0} (call : Call) (says : X → Reply) (r : Result X Refusal) (b : Book) (m : Meanings) (b' : Book) (m' : Meanings) : Type 0 where
+pub record IsServedByLaw
+    {X : Type 0} (call : Call) (says : X → Reply) (r : Result X Refusal) (b : Book) (m : Meanings) (b' : Book) (m' : Meanings)
+    : Type 0 where
   pub law :
       InEveryCase b m
       (λ c. (reply_of says r ≡ due_reply c.setting c.history call) × IsBookOf (case_after_call c call) b' m')

@@ -8,8 +8,10 @@ use Rattle.rules.specs.History.{History, Setting}
 use Rattle.sheet.specs.Asking.{account}
 use Rattle.sheet.specs.declared.day_figures.DayFigures.{DayFigures}
 use Rattle.terms.specs.declared.refusal.Refusal.{Refusal}
-use Rattle.book.specs.Case.{Case}
+use Rattle.book.specs.Book.{InEveryCase}
+use Rattle.book.specs.Meanings.{Meanings}
 use Rattle.book.specs.Replies.{IsJudgedBy}
+use Rattle.book.specs.declared.book.Book.{Book}
 use Rattle.book.specs.declared.book.Days.{Days}
 
 -- 4: the first date or the last does not exist
@@ -60,12 +62,24 @@ account_refusal s h day =
 abbrev pub account_named : Setting → ℕ → ℕ → Option ℕ
 account_named s day n = if n == 14 then Some (date_numbered (s.first + day)) else None
 
--- what a book tells of a day's account, and of a retailer's sum on a day
-abbrev pub TellsAccount : ℕ → Result DayFigures Refusal → Case → Type 0
-TellsAccount day r c =
-    IsJudgedBy (account_refusal c.setting c.history day) (account_named c.setting day)
-    (λ x. x ≡ account c.setting c.history day (unwrap_or (load c.setting c.history day) 0)) r
+-- What a book tells, in every case.
 
-abbrev pub TellsSum : ℕ → ℕ → Result ℕ Refusal → Case → Type 0
-TellsSum retailer day r c =
-    IsJudgedBy (day_refusal c.setting day) names_none (λ x. x ≡ retailer_sum c.setting c.history retailer day) r
+-- the days from a first date to a last one
+pub record TellsDays (first last : ℕ) (r : Result Days Refusal) (b : Book) (m : Meanings) : Type 0 where
+  pub law :
+      InEveryCase b m
+      (λ c. IsJudgedBy (days_refusal c.setting first last) names_none (AreDaysOf c.setting first last) r)
+
+-- a day's account
+pub record TellsAccount (day : ℕ) (r : Result DayFigures Refusal) (b : Book) (m : Meanings) : Type 0 where
+  pub law :
+      InEveryCase b m
+      (λ c. IsJudgedBy (account_refusal c.setting c.history day) (account_named c.setting day)
+      (λ x. x ≡ account c.setting c.history day (unwrap_or (load c.setting c.history day) 0)) r)
+
+-- what the figures of a retailer's points come to on a day
+pub record TellsSum (retailer day : ℕ) (r : Result ℕ Refusal) (b : Book) (m : Meanings) : Type 0 where
+  pub law :
+      InEveryCase b m
+      (λ c. IsJudgedBy (day_refusal c.setting day) names_none
+      (λ x. x ≡ retailer_sum c.setting c.history retailer day) r)

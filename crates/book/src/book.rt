@@ -287,10 +287,10 @@ impl Book {
 
 // Days and questions.
 impl Book {
-    ghost use Rattle.book.specs.Book.{InEveryCase, InEveryCaseBesideAny, IsAnsweredByLaw};
-    ghost use Rattle.book.specs.Days.{AreDaysOf, TellsAccount, TellsSum, days_refusal, names_none};
+    ghost use Rattle.book.specs.Book.{IsAnsweredByLaw};
+    ghost use Rattle.book.specs.Days.{TellsAccount, TellsDays, TellsSum};
     ghost use Rattle.book.specs.Meanings.{Meanings, meanings_of};
-    ghost use Rattle.book.specs.Replies.{IsJudgedBy, day_is, figure_is, sum_is};
+    ghost use Rattle.book.specs.Replies.{day_is, figure_is, sum_is};
 
     // The date of a day of the book.
     fn date_of(&self, day: u32) -> u32
@@ -316,8 +316,7 @@ impl Book {
     /// Refusals: `NoSuchDate` (4) where either date does not exist; `OutsideBook` (5) where either lies outside the book;
     /// `EndNotAllowed` (10) where the last is before the first.
     pub fn days_of(&self, first: u32, last: u32) -> Result<Days, Refusal>
-        ensures { InEveryCaseBesideAny self.now
-            (λ c. IsJudgedBy (days_refusal c.setting first last) names_none (AreDaysOf c.setting first last) result) }
+        ensures { (m : Meanings) → TellsDays first last result self.now m }
     {
         // Both dates have to exist before either is looked for in the book.
         let first_number = day_number_of(first)?;
@@ -337,8 +336,7 @@ impl Book {
     ///
     /// Refusals: `OutsideBook` (5) where the book has no such day; `AskedDayWithoutLoad` (14).
     pub fn day_account<E: Weather>(&self, estimator: &E, day: u32) -> Result<DayFigures, Refusal>
-        ensures { InEveryCase self.now (meanings_of (E.meaning estimator.now) (E.under estimator.now))
-            (TellsAccount day result) }
+        ensures { TellsAccount day result self.now (meanings_of (E.meaning estimator.now) (E.under estimator.now)) }
     {
         if day >= self.ledger.opening().days {
             return Err(Refusal::OutsideBook);
@@ -361,7 +359,7 @@ impl Book {
     ///
     /// Refusal: `OutsideBook` (5) where the book has no such day.
     pub fn day_sum(&self, retailer: u32, day: u32) -> Result<u64, Refusal>
-        ensures { InEveryCaseBesideAny self.now (TellsSum retailer day result) }
+        ensures { (m : Meanings) → TellsSum retailer day result self.now m }
     {
         if day >= self.ledger.opening().days {
             return Err(Refusal::OutsideBook);

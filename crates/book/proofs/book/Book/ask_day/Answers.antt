@@ -10,4 +10,4 @@ returns-in_err-day g c =
 pub returns : goal.returns
 returns g c =
     question_granted c.args.date c.in_ok-day.day _ c.in_ok-day.ensures
-    (λ case f none is. account_granted case c.args.date c.in_ok-day.day c.day_account.result none is (c.day_account.ensures case f))
+    (λ case f none is. account_granted case c.args.date c.in_ok-day.day c.day_account.result none is (c.day_account.ensures.law case f))
