@@ -62,12 +62,12 @@ account_refusal s h day =
 abbrev pub account_named : Setting → ℕ → ℕ → Option ℕ
 account_named s day n = if n == 14 then Some (date_numbered (s.first + day)) else None
 
--- What a book tells, in every case.
+-- What a book tells, in every case: of an account beside an estimator that means m, of days and sums beside any.
 
 -- the days from a first date to a last one
-pub record TellsDays (first last : ℕ) (r : Result Days Refusal) (b : Book) (m : Meanings) : Type 0 where
+pub record TellsDays (first last : ℕ) (r : Result Days Refusal) (b : Book) : Type 0 where
   pub law :
-      InEveryCase b m
+      (m : Meanings) → InEveryCase b m
       (λ c. IsJudgedBy (days_refusal c.setting first last) names_none (AreDaysOf c.setting first last) r)
 
 -- a day's account
@@ -78,8 +78,8 @@ pub record TellsAccount (day : ℕ) (r : Result DayFigures Refusal) (b : Book) (
       (λ x. x ≡ account c.setting c.history day (unwrap_or (load c.setting c.history day) 0)) r)
 
 -- what the figures of a retailer's points come to on a day
-pub record TellsSum (retailer day : ℕ) (r : Result ℕ Refusal) (b : Book) (m : Meanings) : Type 0 where
+pub record TellsSum (retailer day : ℕ) (r : Result ℕ Refusal) (b : Book) : Type 0 where
   pub law :
-      InEveryCase b m
+      (m : Meanings) → InEveryCase b m
       (λ c. IsJudgedBy (day_refusal c.setting day) names_none
       (λ x. x ≡ retailer_sum c.setting c.history retailer day) r)

@@ -316,7 +316,7 @@ impl Book {
     /// Refusals: `NoSuchDate` (4) where either date does not exist; `OutsideBook` (5) where either lies outside the book;
     /// `EndNotAllowed` (10) where the last is before the first.
     pub fn days_of(&self, first: u32, last: u32) -> Result<Days, Refusal>
-        ensures { (m : Meanings) → TellsDays first last result self.now m }
+        ensures { TellsDays first last result self.now }
     {
         // Both dates have to exist before either is looked for in the book.
         let first_number = day_number_of(first)?;
@@ -359,7 +359,7 @@ impl Book {
     ///
     /// Refusal: `OutsideBook` (5) where the book has no such day.
     pub fn day_sum(&self, retailer: u32, day: u32) -> Result<u64, Refusal>
-        ensures { (m : Meanings) → TellsSum retailer day result self.now m }
+        ensures { TellsSum retailer day result self.now }
     {
         if day >= self.ledger.opening().days {
             return Err(Refusal::OutsideBook);

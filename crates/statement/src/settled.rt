@@ -1,7 +1,9 @@
 // The month settled: preliminary, final, and revised once.
 use super::calls::{before_final, before_revision, july};
 use super::month::{FIRST, LAST, Month};
-use statements::{Final, Preliminary, Revised, SUMS, Span, Statement, Undrawn};
+use statements::{
+    Final, LATER_PLACES, Preliminary, Revised, SUMS, Span, Stage, Statement, Undrawn,
+};
 use std::alloc::Global;
 
 const JULY: Span = Span {
@@ -13,17 +15,17 @@ const JULY: Span = Span {
 #[derive(Clone, Copy, PartialEq, Eq, Debug)]
 pub(crate) struct Settled {
     pub(crate) preliminary: [i64; SUMS],
-    pub(crate) last: [i64; 2 * SUMS],
-    pub(crate) revised: [i64; 2 * SUMS],
+    pub(crate) last: [i64; LATER_PLACES],
+    pub(crate) revised: [i64; LATER_PLACES],
 }
 
 // The final of July, from the preliminary. Where it cannot be drawn the settlement ends with what there is.
 fn finalise(
     month: &mut Month,
     heap: Global,
-    stage: Preliminary,
+    stage: Stage<Preliminary>,
     list: &mut [i64],
-) -> anyhow::Result<Final> {
+) -> anyhow::Result<Stage<Final>> {
     if let Err(e) = month.tell(heap, &before_final()) {
         stage.settle();
         return Err(e);
@@ -41,9 +43,9 @@ fn finalise(
 fn revise(
     month: &mut Month,
     heap: Global,
-    stage: Final,
+    stage: Stage<Final>,
     list: &mut [i64],
-) -> anyhow::Result<Revised> {
+) -> anyhow::Result<Stage<Revised>> {
     if let Err(e) = month.tell(heap, &before_revision()) {
         stage.settle();
         return Err(e);
@@ -61,13 +63,13 @@ fn revise(
 pub(crate) fn settle(heap: Global) -> anyhow::Result<(Settled, Statement)> {
     let mut settled = Settled {
         preliminary: [0; SUMS],
-        last: [0; 2 * SUMS],
-        revised: [0; 2 * SUMS],
+        last: [0; LATER_PLACES],
+        revised: [0; LATER_PLACES],
     };
     let mut month = Month::open(heap)?;
     let calls = july(heap)?;
     month.tell(heap, calls.as_slice())?;
-    let preliminary = Preliminary::draw(
+    let preliminary = Stage::draw(
         &month.book,
         &month.estimator,
         JULY,

@@ -1,7 +1,7 @@
 // The stages as tables, in megajoules. Retailers without a point have no row.
 use super::calls::{NORTHERN, SMALL, SOUTHERN};
 use super::settled::Settled;
-use statements::{RETAILERS, SUMS, Span};
+use statements::{LATER_PLACES, RETAILERS, SUMS, Span};
 use std::{fmt, io};
 
 // A row of a statement.
@@ -69,7 +69,11 @@ pub(crate) fn print_first(rt: &HostRuntime, sums: &[i64]) -> io::Result<()> {
 }
 
 // The adjustments of a later stage, and its sums.
-pub(crate) fn print_later(rt: &HostRuntime, name: &str, list: &[i64; 2 * SUMS]) -> io::Result<()> {
+pub(crate) fn print_later(
+    rt: &HostRuntime,
+    name: &str,
+    list: &[i64; LATER_PLACES],
+) -> io::Result<()> {
     println!(rt; "")?;
     println!(rt; "{name:<14}  adjustment         sum")?;
     for row in ROWS {

@@ -7,7 +7,7 @@ use Rattle.std.proofs.lemmas.List.FromFn.{get_or-map-range_with_len, length-map-
 use Rattle.std.proofs.lemmas.List.{get_or-append_right, get_or_append_left, drop-drop, take-append-le, take_all}
 use Rattle.std.proofs.Math.Seq.{drop-append_seam}
 use Rattle.std.proofs.lemmas.Slice.{drop-append-drop}
-use Rattle.statements.specs.Laws.{adjusted, last_of}
+use Rattle.statements.specs.Laws.{adjustments_sum, last_of}
 use Rattle.statements.specs.Lists.{listed, shown_at}
 use Rattle.statements.specs.declared.sums.Sums.{Sums}
 
@@ -63,7 +63,7 @@ pub leads_on : (a b : ℤ) → a +ℤ (b -ℤ a) ≡ b
 leads_on a b = omega (arith, ints)
 
 -- the adjustments of all stages added to the first sum give the last
-pub add_up : (first : Sums) (later : List Sums) (place : ℕ) → shown_at first place +ℤ adjusted first later place ≡ shown_at (last_of first later) place
+pub add_up : (first : Sums) (later : List Sums) (place : ℕ) → shown_at first place +ℤ adjustments_sum first later place ≡ shown_at (last_of first later) place
 add_up first [] place = omega (arith, ints)
 add_up first (next ∷ later) place =
     let on = add_up next later place in

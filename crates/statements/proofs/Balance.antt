@@ -7,13 +7,12 @@ use Rattle.rules.specs.History.{History, Setting}
 use Rattle.rules.proofs.Over.{sum_added, sum_swap}
 use Rattle.rules.proofs.Retailers.{retailers_balance}
 use Rattle.rules.specs.Balance.{retailers_sum}
-use Rattle.statements.specs.Draws.{Loaded}
-use Rattle.statements.specs.Spans.{day_count, sum_over}
+use Rattle.statements.specs.Draws.{HasLoads}
+use Rattle.statements.specs.Spans.{span_day_count, sum_over}
 use Rattle.statements.specs.Sums.{excess_over, load_over, remainder_on, remainder_over, retailers_over}
-use Rattle.statements.specs.declared.span.Span.{Span}
-use Rattle.statements.proofs.Judges.{some_load}
-use Rattle.statements.proofs.Loaded.{each_loaded}
-use Rattle.statements.proofs.Summed.{of_alike}
+use Rattle.statements.specs.declared.statement.Span.{Span}
+use Rattle.statements.proofs.DayLoads.{each_loaded, some_load}
+use Rattle.statements.proofs.SpanSums.{of_alike}
 
 -- sums over days, taken row by row or day by day
 by_days : (f : ℕ → ℕ → ℕ) (ks : List ℕ) (d n : ℕ) → sum (map (λ k. sum_over (f k) d n) ks) ≡ sum_over (λ e. sum (map (λ k. f k e) ks)) d n
@@ -25,10 +24,10 @@ both : (f g : ℕ → ℕ) (d n : ℕ) → sum_over f d n + sum_over g d n ≡ s
 unfolding sum_over
 both f g d n = sym (sum_added f g (range_with_len d n))
 
-pub balance : (s : Setting) (h : History) (span : Span) → Lawful s h → Loaded s h span → retailers_over s h span + remainder_over s h span ≡ load_over s h span + excess_over s h span
+pub balance : (s : Setting) (h : History) (span : Span) → Lawful s h → HasLoads s h span → retailers_over s h span + remainder_over s h span ≡ load_over s h span + excess_over s h span
 balance s h span lawful loaded =
     let d = place s span.first in
-    let n = day_count span in
+    let n = span_day_count span in
     let load_on : ℕ → ℕ = λ e. unwrap_or (load s h e) 0 in
     ap (λ x. x + remainder_over s h span) (by_days (retailer_sum s h) (range_with_len 1 retailers) d n)
     ∙ both (retailers_sum s h) (remainder_on s h) d n

@@ -1,5 +1,5 @@
 -- Days with loads. Assumes nothing.
-use Rattle.std.proofs.Common.{◌≡◌, ℕ, zero, suc, ◌+◌, ◌<◌, Bool, true, false, cond, is_some, Some, None, Option, sym, refl, ap, ◌∙◌, arith}
+use Rattle.std.proofs.Common.{◌≡◌, ℕ, zero, suc, ◌+◌, ◌<◌, Bool, true, false, cond, is_some, Some, None, Option, unwrap_or, sym, refl, ap, ◌∙◌, arith}
 use Rattle.std.specs.List.{range_with_len}
 use Rattle.std.proofs.lemmas.Bool.{cond-false, cond-true, false≢true}
 use Rattle.rules.specs.Calls.{first_without_load}
@@ -40,3 +40,8 @@ module _ (s : Setting) (h : History) where
       cond-true _ _ _ (ap is_some (sym (at_start d)) ∙ each 0 (omega arith))
       ∙ first_unloaded (d + 1) n i (omega arith) (λ k less. ap is_some (sym (shifted d k)) ∙ each (suc k) (omega arith)) (ap is_some (sym (shifted d i)) ∙ lacks)
       ∙ ap Some e
+
+-- a day with a load tells it
+pub some_load : (o : Option ℕ) → is_some o ≡ true → o ≡ Some (unwrap_or o 0)
+some_load None some = absurd (false≢true some)
+some_load (Some n) some = refl

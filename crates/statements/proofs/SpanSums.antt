@@ -41,5 +41,7 @@ pub counted_more : (f : ℕ → ℕ) (d n total x : ℕ) → total ≡ min (sum_
 counted_more f d n total x before is = omega (arith, of_one_more f d n)
 
 -- a sum within the limit is counted whole
-pub whole : (f : ℕ → ℕ) (d n m : ℕ) → n ≡ m → sum_over f d m ≤ largest_sum → min (sum_over f d n) largest_sum ≡ sum_over f d m
-whole f d n m same within = omega (arith, ap (sum_over f d) same)
+pub whole : (f : ℕ → ℕ) (d e n m : ℕ) → d ≡ e → n ≡ m → sum_over f e m ≤ largest_sum → min (sum_over f d n) largest_sum ≡ sum_over f e m
+whole f d e n m same_first same_count within =
+    let same : sum_over f d n ≡ sum_over f e m = λ i. sum_over f (same_first i) (same_count i) in
+    omega (arith, same)

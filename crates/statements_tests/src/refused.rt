@@ -2,7 +2,7 @@
 use super::areas::{
     Area, FIRST, IDLE, LAST, WHOLE_BOOK, area_told, begins, begun, complete, places,
 };
-use statements::{Final, Preliminary, Revised, Span, Undrawn};
+use statements::{Final, LATER_PLACES, Preliminary, Revised, SUMS, Span, Stage, Undrawn};
 use std::process::Abort;
 use std::test::Fail;
 use terms::Refusal;
@@ -15,7 +15,7 @@ fn refusal(
     last: u32,
     list: &mut [i64],
 ) -> Option<Refusal> {
-    match Preliminary::draw(&area.book, &area.weather, Span { first, last }, list) {
+    match Stage::draw(&area.book, &area.weather, Span { first, last }, list) {
         Ok(stage) => {
             stage.settle();
             None
@@ -45,7 +45,7 @@ fn spans_refused(rt: HostRuntime) -> Result<(), Fail> {
         (LAST, LAST, lacking),
         (FIRST, IDLE, Refusal::ListTooShort),
     ];
-    let mut short = [7; 16];
+    let mut short = [7; SUMS - 1];
     for (first, last, reason) in due {
         assert_eq!(rt;
             refusal(&rt, &area, first, last, &mut short),
@@ -53,17 +53,17 @@ fn spans_refused(rt: HostRuntime) -> Result<(), Fail> {
             "{first} to {last}"
         );
     }
-    assert_eq!(rt; refusal(&rt, &area, FIRST, IDLE, &mut [7; 17]), None);
+    assert_eq!(rt; refusal(&rt, &area, FIRST, IDLE, &mut [7; SUMS]), None);
     Ok(())
 }
 
 // The stage and the reason why the final was not drawn. The list stays as it was.
 fn undrawn(
     rt: &impl Abort,
-    stage: Preliminary,
+    stage: Stage<Preliminary>,
     area: &Area,
     list: &mut [i64],
-) -> Result<(Preliminary, Refusal), Fail> {
+) -> Result<(Stage<Preliminary>, Refusal), Fail> {
     let before = stage.statement();
     match stage.draw_final(&area.book, &area.weather, list) {
         Ok(next) => {
@@ -84,9 +84,14 @@ fn later_stages_refused(rt: HostRuntime) -> Result<(), Fail> {
     let complete = area_told(&rt, 4, &[&begun(), &complete()])?;
     let without_load = area_told(&rt, 4, &[&begun()])?;
     let smaller = area_told(&rt, 3, &[])?;
-    let mut list = [7; 33];
+    let mut list = [7; LATER_PLACES - 1];
 
-    let stage = Preliminary::draw(&complete.book, &complete.weather, WHOLE_BOOK, &mut [7; 17])?;
+    let stage = Stage::draw(
+        &complete.book,
+        &complete.weather,
+        WHOLE_BOOK,
+        &mut [7; SUMS],
+    )?;
     let (stage, reason) = undrawn(&rt, stage, &smaller, &mut list)?;
     assert_eq!(rt; reason, Refusal::OutsideBook);
     let (stage, reason) = undrawn(&rt, stage, &without_load, &mut list)?;
@@ -94,7 +99,7 @@ fn later_stages_refused(rt: HostRuntime) -> Result<(), Fail> {
     let (stage, reason) = undrawn(&rt, stage, &complete, &mut list)?;
     assert_eq!(rt; reason, Refusal::ListTooShort);
 
-    let mut list = [7; 34];
+    let mut list = [7; LATER_PLACES];
     match stage.draw_final(&complete.book, &complete.weather, &mut list) {
         Ok(stage) => {
             begins(
@@ -113,7 +118,7 @@ fn later_stages_refused(rt: HostRuntime) -> Result<(), Fail> {
 }
 
 // A final without places for its revision comes back, and so does a revision.
-fn revise_in_vain(rt: &impl Abort, stage: Final, area: &Area) -> Result<(), Fail> {
+fn revise_in_vain(rt: &impl Abort, stage: Stage<Final>, area: &Area) -> Result<(), Fail> {
     let before = stage.statement();
     match stage.draw_revision(&area.book, &area.weather, &mut []) {
         Ok(next) => {
@@ -125,7 +130,7 @@ fn revise_in_vain(rt: &impl Abort, stage: Final, area: &Area) -> Result<(), Fail
                 (refusal, stage.statement()),
                 (Refusal::ListTooShort, before)
             );
-            match stage.draw_revision(&area.book, &area.weather, &mut [7; 34]) {
+            match stage.draw_revision(&area.book, &area.weather, &mut [7; LATER_PLACES]) {
                 Ok(next) => revise_again_in_vain(rt, next, area),
                 Err(Undrawn { refusal, stage }) => {
                     stage.settle();
@@ -136,9 +141,9 @@ fn revise_in_vain(rt: &impl Abort, stage: Final, area: &Area) -> Result<(), Fail
     }
 }
 
-fn revise_again_in_vain(rt: &impl Abort, stage: Revised, area: &Area) -> Result<(), Fail> {
+fn revise_again_in_vain(rt: &impl Abort, stage: Stage<Revised>, area: &Area) -> Result<(), Fail> {
     let before = stage.statement();
-    match stage.draw_revision(&area.book, &area.weather, &mut [7; 33]) {
+    match stage.draw_revision(&area.book, &area.weather, &mut [7; LATER_PLACES - 1]) {
         Ok(next) => {
             next.settle();
             Err(Fail::new("drawn"))

@@ -3,13 +3,17 @@ use super::areas::{
     Area, FIRST, IDLE, LAST, WHOLE_BOOK, area_told, begins, begun, complete, corrected, exceeded,
     places,
 };
-use statements::{Final, Preliminary, Revised, Span, Statement, Undrawn};
+use statements::{Final, Preliminary, Revised, SUMS, Span, Stage, Statement, Undrawn};
 use std::process::Abort;
 use std::test::Fail;
 
 // The next stage, or the reason why there is none; then the settlement ends.
 
-fn finalised(stage: Preliminary, area: &Area, list: &mut [i64]) -> Result<Final, Fail> {
+fn finalised(
+    stage: Stage<Preliminary>,
+    area: &Area,
+    list: &mut [i64],
+) -> Result<Stage<Final>, Fail> {
     match stage.draw_final(&area.book, &area.weather, list) {
         Ok(next) => Ok(next),
         Err(Undrawn { refusal, stage }) => {
@@ -19,7 +23,11 @@ fn finalised(stage: Preliminary, area: &Area, list: &mut [i64]) -> Result<Final,
     }
 }
 
-fn first_revised(stage: Final, area: &Area, list: &mut [i64]) -> Result<Revised, Fail> {
+fn first_revised(
+    stage: Stage<Final>,
+    area: &Area,
+    list: &mut [i64],
+) -> Result<Stage<Revised>, Fail> {
     match stage.draw_revision(&area.book, &area.weather, list) {
         Ok(next) => Ok(next),
         Err(Undrawn { refusal, stage }) => {
@@ -29,7 +37,7 @@ fn first_revised(stage: Final, area: &Area, list: &mut [i64]) -> Result<Revised,
     }
 }
 
-fn revised(stage: Revised, area: &Area, list: &mut [i64]) -> Result<Revised, Fail> {
+fn revised(stage: Stage<Revised>, area: &Area, list: &mut [i64]) -> Result<Stage<Revised>, Fail> {
     match stage.draw_revision(&area.book, &area.weather, list) {
         Ok(next) => Ok(next),
         Err(Undrawn { refusal, stage }) => {
@@ -53,7 +61,7 @@ fn adjustments_up_and_down(rt: HostRuntime) -> Result<(), Fail> {
     ];
     let mut list = [7; 40];
 
-    let stage = Preliminary::draw(&at_first.book, &at_first.weather, WHOLE_BOOK, &mut list)?;
+    let stage = Stage::draw(&at_first.book, &at_first.weather, WHOLE_BOOK, &mut list)?;
     begins(&rt, "preliminary", &list, &[sums[0]]);
     let mut list = [7; 40];
     let stage = finalised(stage, &then, &mut list)?;
@@ -75,9 +83,9 @@ fn adjustments_up_and_down(rt: HostRuntime) -> Result<(), Fail> {
 }
 
 // The sums of a span, from a list with just enough places.
-fn sums_of(area: &Area, first: u32, last: u32) -> Result<[i64; 17], Fail> {
-    let mut list = [7; 17];
-    let stage = Preliminary::draw(&area.book, &area.weather, Span { first, last }, &mut list)?;
+fn sums_of(area: &Area, first: u32, last: u32) -> Result<[i64; SUMS], Fail> {
+    let mut list = [7; SUMS];
+    let stage = Stage::draw(&area.book, &area.weather, Span { first, last }, &mut list)?;
     stage.settle();
     Ok(list)
 }

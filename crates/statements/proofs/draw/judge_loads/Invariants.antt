@@ -1,10 +1,10 @@
 use Rattle.std.proofs.Common.{◌≡◌, ℕ, ◌+◌, ◌<◌, ◌≤◌, true, is_some}
 use Rattle.rules.specs.Figures.{load}
-use Rattle.rules.specs.History.{History, Setting}
-use Rattle.book.specs.Follows.{Beyond, Follows}
-use Rattle.statements.proofs.judging.judge_loads.Given as goal
+use Rattle.book.specs.Book.{InEveryCase}
+use Rattle.book.specs.Meanings.{meanings_of}
+use Rattle.statements.proofs.draw.judge_loads.Given as goal
 
-abbrev pub invariant-loop-day : goal.invariant-loop-day
-invariant-loop-day g l =
-    (s : Setting) (rest : Beyond) (h : History) → Follows s rest h l.book (g.E.Estimator.meaning l.estimator) (g.E.Weather.under l.estimator)
-    → (d : ℕ) → l.days.first ≡ s.first + d → d + l.days.count ≤ s.days → (k : ℕ) → k < l.day → is_some (load s h (d + k)) ≡ true
+abbrev pub invariant-loop-place : goal.invariant-loop-place
+invariant-loop-place g l =
+    InEveryCase l.book (meanings_of (g.E.Estimator.meaning l.estimator) (g.E.Weather.under l.estimator))
+    (λ c. l.days.first + l.days.count ≤ c.setting.days → (k : ℕ) → k < l.place → is_some (load c.setting c.history (l.days.first + k)) ≡ true)

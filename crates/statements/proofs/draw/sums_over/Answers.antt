@@ -6,7 +6,7 @@ use Rattle.std.proofs.lemmas.List.{length-set}
 use Rattle.terms.specs.declared.refusal.Refusal.{Refusal}
 use Rattle.statements.specs.Limits.{largest_sum}
 use Rattle.statements.specs.Sums.{remainder_over, retailer_over}
-use Rattle.statements.proofs.summing.sums_over.Goals as goal
+use Rattle.statements.proofs.draw.sums_over.Goals as goal
 
 -- a list of zeros holds 0 everywhere
 nothing : (n k : ℕ) → ◌≡◌ {A = ℕ} (get_or (replicate n 0) k 0) 0
@@ -22,7 +22,7 @@ pub loop-place-init : goal.loop-place-init
 loop-place-init g c = record {
   long = refl;
   fits = λ k. let none = nothing 16 k in omega (arith, none);
-  law = λ s rest h f span its k none. absurd (omega arith);
+  law = λ case f span its k none. absurd (omega arith);
 }
 
 pub loop-place-preserved : goal.loop-place-preserved
@@ -36,26 +36,28 @@ loop-place-preserved g c =
       fits = λ k.
           ⊎_elim (λ same. subst (λ (n : ℕ). get_or (set xs i x) n 0 ≤ largest_sum) same (subst (λ (n : ℕ). n ≤ largest_sum) (sym (get_or-set_same xs i x 0 inside)) c.in_ok-retailers.ensures.fits))
           (λ other. let apart : k ≢ c.loop-place.place = λ same. other (sym same) in subst (λ (n : ℕ). n ≤ largest_sum) (sym (get_or-set_other xs i k x 0 apart)) (c.loop-place.invariant.fits k)) (cases_eq i k);
-      law = λ s rest h f span its.
-          let given : ◌≡◌ {A = Result ℕ Refusal} (Ok x) (Ok (retailer_over s h (i + 1) span)) = c.in_ok-retailers.ensures.law _ _ s rest h f span its (omega arith) (omega (arith, c.loop-place-test.true)) in
-          let is : x ≡ retailer_over s h (i + 1) span = cc in
-          below_more (λ k. get_or (set xs i x) k 0 ≡ retailer_over s h (k + 1) span) i
-          (λ k less. get_or-set_other xs i k x 0 (λ same. absurd (omega arith)) ∙ c.loop-place.invariant.law s rest h f span its k less)
+      law = λ case f span its.
+          let given : ◌≡◌ {A = Result ℕ Refusal} (Ok x) (Ok (retailer_over case.setting case.history (i + 1) span)) = c.in_ok-retailers.ensures.law.law _ case f span its in
+          let is : x ≡ retailer_over case.setting case.history (i + 1) span = cc in
+          below_more (λ k. get_or (set xs i x) k 0 ≡ retailer_over case.setting case.history (k + 1) span) i
+          (λ k less. get_or-set_other xs i k x 0 (λ same. absurd (omega arith)) ∙ c.loop-place.invariant.law case f span its k less)
           (get_or-set_same xs i x 0 inside ∙ is);
     }
 
 pub returns-in_err-remainder : goal.returns-in_err-remainder
-returns-in_err-remainder g c = λ s rest h f span its loaded. not_given (c.in_err-remainder.ensures.law s rest h f span its loaded)
+returns-in_err-remainder g c = record { law = λ case f span its loaded. not_given (c.in_err-remainder.ensures.law.law case f span its loaded) }
 
 pub returns-in_err-retailers : goal.returns-in_err-retailers
-returns-in_err-retailers g c = λ s rest h f span its loaded. not_given (c.in_err-retailers.ensures.law _ _ s rest h f span its (omega arith) (omega (arith, c.loop-place-test.true)))
+returns-in_err-retailers g c = record { law = λ case f span its loaded. not_given (c.in_err-retailers.ensures.law.law _ case f span its) }
 
 pub returns : goal.returns
-returns g c = λ s rest h f span its loaded.
-    let given : ◌≡◌ {A = Result ℕ Refusal} (Ok c.in_ok-remainder.remainder) (Ok (remainder_over s h span)) = c.in_ok-remainder.ensures.law s rest h f span its loaded in
-    record {
-      retailers = λ k low high.
-          let next : k - 1 + 1 ≡ k = omega arith in
-          c.loop-place.invariant.law s rest h f span its (k - 1) (omega (arith, c.loop-place-test.false)) ∙ ap (λ n. retailer_over s h n span) next;
-      remainder = cc;
-    }
+returns g c = record {
+  law = λ case f span its loaded.
+      let given : ◌≡◌ {A = Result ℕ Refusal} (Ok c.in_ok-remainder.remainder) (Ok (remainder_over case.setting case.history span)) = c.in_ok-remainder.ensures.law.law case f span its loaded in
+      record {
+        retailers = λ k low high.
+            let next : k - 1 + 1 ≡ k = omega arith in
+            c.loop-place.invariant.law case f span its (k - 1) (omega (arith, c.loop-place-test.false)) ∙ ap (λ n. retailer_over case.setting case.history n span) next;
+        remainder = cc;
+      };
+}

@@ -9,6 +9,5 @@ returns-in_err-day c =
 
 pub returns : goal.returns
 returns c = λ m.
-    let day_sum = c.day_sum.ensures m in
     question_granted c.args.date c.in_ok-day.day _ c.in_ok-day.ensures
-    (λ case f none is. sum_granted case c.args.retailer c.args.date c.in_ok-day.day c.day_sum.result none is (day_sum.law case f))
+    (λ case f none is. sum_granted case c.args.retailer c.args.date c.in_ok-day.day c.day_sum.result none is (c.day_sum.ensures.law m case f))

@@ -5,8 +5,8 @@ use Rattle.book.proofs.Calls.{told_book}
 use Rattle.book.proofs.book.Book.day_sum.Goals as goal
 
 pub returns : goal.returns
-returns c = λ m. record {
-  law = λ case f.
+returns c = record {
+  law = λ m case f.
       let days : c.opening.result.days ≡ case.setting.days = ap (λ (o : Opening). o.days) c.opening.ensures ∙ f.entries.days in
       let within : c.args.day < case.setting.days = omega (arith, c.if-day-opening.false, days) in (
         a_day case.setting c.args.day None within,

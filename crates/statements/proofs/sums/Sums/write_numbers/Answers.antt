@@ -3,8 +3,8 @@ use lib.Seq.{paste}
 use Rattle.std.proofs.lemmas.Int.{ints}
 use Rattle.std.proofs.lemmas.List.Edits.{paste_none}
 use Rattle.statements.specs.Lists.{listed}
-use Rattle.statements.proofs.Adjusting.{written_all, written_more}
-use Rattle.statements.proofs.list.write_numbers.Goals as goal
+use Rattle.statements.proofs.Adjustments.{written_all, written_more}
+use Rattle.statements.proofs.sums.Sums.write_numbers.Goals as goal
 
 pub loop-place-init : goal.loop-place-init
 loop-place-init g c = λ f law. paste_none c.args.list.now c.args.from (listed f)

@@ -1,7 +1,7 @@
 use Rattle.std.proofs.Common.{◌≡◌, ℕ, ◌<◌, ℤ}
 use lib.Seq.{paste}
 use Rattle.statements.specs.Lists.{listed}
-use Rattle.statements.proofs.list.write_numbers.Given as goal
+use Rattle.statements.proofs.sums.Sums.write_numbers.Given as goal
 
 abbrev pub invariant-loop-place : goal.invariant-loop-place
 invariant-loop-place g l =
