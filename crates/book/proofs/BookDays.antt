@@ -6,7 +6,7 @@ use Rattle.calendar.specs.Digits.{day_number_of, is_date}
 use Rattle.rules.specs.Calls.{in_book, place}
 use Rattle.rules.specs.History.{History, Setting}
 use Rattle.ledger.specs.Days.{within_days}
-use Rattle.ledger.specs.Told as ledgers
+use Rattle.ledger.specs.Told.{Follows}
 use Rattle.ledger.specs.declared.state.Ledger.{Ledger}
 use Rattle.terms.specs.Numbers.{day_named, number_of}
 use Rattle.terms.specs.declared.refusal.Refusal.{Refusal}
@@ -21,7 +21,7 @@ none_named (AskedDayWithoutLoad date) small = absurd (omega arith)
 none_named e small = refl
 
 -- a day number is that of a day of the book where the date lies in it
-pub in_book_followed : {s : Setting} {h : History} {l : Ledger} (date number : ℕ) → ledgers.Follows s h l → number ≡ day_number_of date → within_days l.opening 0 number ≡ in_book s 0 date
+pub in_book_followed : {s : Setting} {h : History} {l : Ledger} (date number : ℕ) → Follows s h l → number ≡ day_number_of date → within_days l.opening 0 number ≡ in_book s 0 date
 in_book_followed date number f is = λ i. leb (f.first i) (is i) && ltb (is i) (f.first i + f.days i + 0)
 
 -- what it means to lie in the book

@@ -11,7 +11,7 @@ use Rattle.rules.specs.declared.call.Call.{Call}
 use Rattle.rules.specs.declared.call.Call.TheVariants.{EnterDegreeDays, AskFigure, AskDay, AskRetailer}
 use Rattle.rules.specs.declared.entry.Entry.{Entry}
 use Rattle.ledger.specs.Beyond.{beyond_days}
-use Rattle.ledger.specs.Told as ledgers
+use Rattle.ledger.specs.Told.{Follows}
 use Rattle.ledger.specs.declared.state.Ledger.{Ledger}
 use Rattle.terms.specs.Numbers.{number_of, day_named}
 use Rattle.terms.specs.declared.refusal.Refusal.{Refusal}
@@ -52,8 +52,8 @@ module _ (c : Case) (call : Call) where
   -- what an accepted entry leaves is the book of the case with it
   pub entry_follows : (e : Entry) (b b' : Book) (m m' : Meanings) → IsBookOf c b m
       → refusal c.setting c.history call ≡ None → entry_of c.setting call ≡ Some e
-      → ledgers.Follows c.setting (e ∷ c.history) b'.ledger → beyond_days b'.ledger ≡ beyond_days b.ledger
-      → Estimates c.setting (e ∷ c.history) m'.figures → ((count p d : ℕ) → m'.under count p d ≡ c.setting.weather count p d)
+      → Follows c.setting (e ∷ c.history) b'.ledger → beyond_days b'.ledger ≡ beyond_days b.ledger
+      → Estimates c.setting (e ∷ c.history) m'.current → ((count p d : ℕ) → m'.under count p d ≡ c.setting.weather count p d)
       → (Lawful c.setting (e ∷ c.history) → Stands c.setting c.rest.sheet (e ∷ c.history) b'.sheet)
       → IsBookOf (case_after_call c call) b' m'
   entry_follows e b b' m m' f none is entries beyond estimates weather stands =
@@ -86,14 +86,14 @@ refused_entry c call e b b' m same judged f =
 -- An accepted entry that is no count: the ledger holds it, and the sheet takes it in.
 pub accepted_entry : (c : Case) (call : Call) (e : Entry) (l : Ledger) (b b' : Book) (m : Meanings)
     → IsBookOf c b m → (refusal c.setting c.history call ≡ None) × (entry_of c.setting call ≡ Some e)
-    → ledgers.Follows c.setting (e ∷ c.history) l → beyond_days l ≡ beyond_days b.ledger → b'.ledger ≡ l → ((d : ℕ) → counts_in d (entry_of c.setting call) ≡ None)
-    → (Lawful c.setting (e ∷ c.history) → ledgers.Follows c.setting (e ∷ c.history) l → Estimates c.setting (e ∷ c.history) m.figures
+    → Follows c.setting (e ∷ c.history) l → beyond_days l ≡ beyond_days b.ledger → b'.ledger ≡ l → ((d : ℕ) → counts_in d (entry_of c.setting call) ≡ None)
+    → (Lawful c.setting (e ∷ c.history) → Follows c.setting (e ∷ c.history) l → Estimates c.setting (e ∷ c.history) m.current
     → Stands c.setting c.rest.sheet c.history b.sheet → Stands c.setting c.rest.sheet (e ∷ c.history) b'.sheet)
     → (granted_reply c.setting c.history call ≡ due_reply c.setting c.history call) × IsBookOf (case_after_call c call) b' m
 accepted_entry c call e l b b' m f judged entries beyond same silent stands =
-    let on = silent_estimates c.setting c.history call e m.figures judged.1 silent f.estimates in (
+    let on = silent_estimates c.setting c.history call e m.current judged.1 silent f.estimates in (
       granted_answers c call judged.0,
-      entry_follows c call e b b' m m f judged.0 judged.1 (subst (λ x. ledgers.Follows c.setting (e ∷ c.history) x) (sym same) entries)
+      entry_follows c call e b b' m m f judged.0 judged.1 (subst (λ x. Follows c.setting (e ∷ c.history) x) (sym same) entries)
           (ap beyond_days same ∙ beyond) on f.weather (λ lawful. stands lawful entries on f.figures),
     )
 
@@ -121,7 +121,7 @@ entry_granted s h (AskRetailer retailer date) e is = let z : ◌≡◌ {A = ℕ}
 entry_granted s h call e is = refl
 
 -- A book is that of the same case where its ledger follows the same history and its sheet is the same.
-pub ledger_follows : {c : Case} {b b' : Book} {m : Meanings} → IsBookOf c b m → ledgers.Follows c.setting c.history b'.ledger
+pub ledger_follows : {c : Case} {b b' : Book} {m : Meanings} → IsBookOf c b m → Follows c.setting c.history b'.ledger
     → beyond_days b'.ledger ≡ beyond_days b.ledger → b'.sheet ≡ b.sheet → IsBookOf c b' m
 ledger_follows {c} f entries beyond sheets = record {
   lawful = f.lawful;

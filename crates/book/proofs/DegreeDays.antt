@@ -11,7 +11,7 @@ use Rattle.rules.specs.declared.call.Call.TheVariants.{EnterDegreeDays}
 use Rattle.rules.specs.declared.entry.Entry.TheVariants.{DegreeDaysEntered}
 use Rattle.ledger.proofs.Entries.{count_followed}
 use Rattle.ledger.specs.Beyond.{beyond_days}
-use Rattle.ledger.specs.Told as ledgers
+use Rattle.ledger.specs.Told.{Follows}
 use Rattle.terms.specs.Answers.{Answers, refused_since}
 use Rattle.terms.specs.declared.refusal.Refusal.{Refusal}
 use Rattle.sheet.specs.Told.{Estimates, Stands}
@@ -54,8 +54,8 @@ taken_within s h date count day b lawful stands judged =
 pub count_entered : (c : Case) (date count day : ℕ) (b b' : Book) (m m' : Meanings) (r : Result (Unit {0}) Refusal) → IsBookOf c b m
     → (refusal c.setting c.history (EnterDegreeDays date count) ≡ None) × (entry_of c.setting (EnterDegreeDays date count) ≡ Some (DegreeDaysEntered day count))
     → Answers r (weather_within (day + 1) count) tt 3 → b'.ledger ≡ b.ledger
-    → (weather_within (day + 1) count ≡ true → Entered (day + 1) count m.figures m'.figures m.under m'.under)
-    → IfOk r (λ _. SheetTakes (DegreeDaysEntered day count) b.ledger m'.figures b.sheet b'.sheet)
+    → (weather_within (day + 1) count ≡ true → Entered (day + 1) count m.current m'.current m.under m'.under)
+    → IfOk r (λ _. SheetTakes (DegreeDaysEntered day count) b.ledger m'.current b.sheet b'.sheet)
     → (reply_of entry_reply r ≡ due_reply c.setting c.history (EnterDegreeDays date count)) × IsBookOf (case_after_call c (EnterDegreeDays date count)) b' m'
 count_entered c date count day b b' m m' (Err e) f judged answers same taken stands =
     absurd
@@ -63,10 +63,10 @@ count_entered c date count day b b' m m' (Err e) f judged answers same taken sta
     (taken_within c.setting c.history date count day b.sheet f.lawful f.figures judged))
 count_entered c date count day b b' m m' (Ok x) f judged answers same taken stands =
     let entered = taken (taken_within c.setting c.history date count day b.sheet f.lawful f.figures judged) in
-    let on = count_estimates c.setting c.history day count m.figures m'.figures m.under m'.under entered f.estimates f.weather in
+    let on = count_estimates c.setting c.history day count m.current m'.current m.under m'.under entered f.estimates f.weather in
     let entries = count_followed day count f.entries in (
       granted_answers c (EnterDegreeDays date count) judged.0,
       entry_follows c (EnterDegreeDays date count) (DegreeDaysEntered day count) b b' m m' f judged.0 judged.1
-          (subst (λ l. ledgers.Follows c.setting (DegreeDaysEntered day count ∷ c.history) l) (sym same) entries) (ap beyond_days same) on
-          (count_weather c.setting day count m.figures m'.figures m.under m'.under entered f.weather) (λ lawful. stands c.setting _ c.history lawful entries on f.figures),
+          (subst (λ l. Follows c.setting (DegreeDaysEntered day count ∷ c.history) l) (sym same) entries) (ap beyond_days same) on
+          (count_weather c.setting day count m.current m'.current m.under m'.under entered f.weather) (λ lawful. stands c.setting _ c.history lawful entries on f.figures),
     )

@@ -9,7 +9,7 @@ use Rattle.rules.specs.declared.call.Call.{Call}
 use Rattle.rules.specs.declared.call.Call.TheVariants.{AskDay, AskFigure, AskRetailer}
 use Rattle.rules.proofs.Accepted.{accepted}
 use Rattle.rules.proofs.Entered.{place_within}
-use Rattle.ledger.specs.Told as ledgers
+use Rattle.ledger.specs.Told.{Follows}
 use Rattle.terms.specs.Numbers.{number_of, day_named}
 use Rattle.terms.specs.declared.refusal.Refusal.{Refusal}
 use Rattle.sheet.specs.Asking.{account, in_sheet}
@@ -66,7 +66,7 @@ question_served {v = v} {call = call} {r = r} {b = b} {m = m} a answers asks eac
 
 -- A question that the ledger refuses is answered so.
 pub question_refused : {X : Type 0} {call : Call} {v : X → Reply} {b : Book} {m : Meanings} (e : Refusal)
-    → ((s : Setting) (h : History) → ledgers.Follows s h b.ledger → (refusal s h call ≡ Some (number_of e)) × (day_named e ≡ named_by s h call (number_of e)))
+    → ((s : Setting) (h : History) → Follows s h b.ledger → (refusal s h call ≡ Some (number_of e)) × (day_named e ≡ named_by s h call (number_of e)))
     → IsAnsweredByLaw call v (Err e) b m
 question_refused {call = call} e judged = record {
   law = λ c f. let refused = judged c.setting c.history f.entries in refusal_answers c call e refused.0 refused.1;
@@ -74,7 +74,7 @@ question_refused {call = call} e judged = record {
 
 -- A question that the ledger grants is answered by what its day gives.
 pub question_granted : {X : Type 0} {call : Call} {v : X → Reply} {b : Book} {m : Meanings} (date day : ℕ) (r : Result X Refusal)
-    → ((s : Setting) (h : History) → ledgers.Follows s h b.ledger → (refusal s h call ≡ None) × (day ≡ place s date))
+    → ((s : Setting) (h : History) → Follows s h b.ledger → (refusal s h call ≡ None) × (day ≡ place s date))
     → ((c : Case) → IsBookOf c b m → refusal c.setting c.history call ≡ None → day ≡ place c.setting date → reply_of v r ≡ granted_reply c.setting c.history call)
     → IsAnsweredByLaw call v r b m
 question_granted {call = call} date day r judged gives = record {

@@ -7,7 +7,7 @@ use Rattle.rules.specs.declared.call.Call.{Call}
 use Rattle.rules.specs.declared.call.Call.TheVariants.{EnterDegreeDays}
 use Rattle.rules.specs.declared.entry.Entry.{Entry}
 use Rattle.ledger.specs.Beyond.{beyond_days}
-use Rattle.ledger.specs.Told as ledgers
+use Rattle.ledger.specs.Told.{Answered, Follows}
 use Rattle.ledger.specs.declared.state.Ledger.{Ledger}
 use Rattle.terms.specs.declared.refusal.Refusal.{Refusal}
 use Rattle.sheet.specs.Asking.{Limited}
@@ -30,13 +30,13 @@ pub record IsBookOf (c : Case) (b : Book) (m : Meanings) : Type 0 where
   -- every figure of the estimator, at the opening and under each count, is within its limit
   pub limited : Limited c.setting
   -- gates, interval energies, enrolments and held readings lie where they should, each held reading in one place
-  pub entries : ledgers.Follows c.setting c.history b.ledger
+  pub entries : Follows c.setting c.history b.ledger
   -- the sheet shows every figure as the rules make it, and what lies beyond its places stays
   pub figures : Stands c.setting c.rest.sheet c.history b.sheet
   -- and so does what lies beyond the places of the interval list
   pub intervals : beyond_days b.ledger ≡ c.rest.intervals
   -- the estimator means the latest estimates, and under each count what it meant at the opening
-  pub estimates : Estimates c.setting c.history m.figures
+  pub estimates : Estimates c.setting c.history m.current
   pub weather : (count p d : ℕ) → m.under count p d ≡ c.setting.weather count p d
 
 -- P holds of every case that the book is kept in beside an estimator that means this
@@ -70,9 +70,9 @@ pub record LeavesBookIfRefused (r : Result Entry Refusal) (b b' : Book) : Type 0
   pub ledger : OnErr r (b'.ledger ≡ b.ledger)
 
 -- and an entry other than a degree-day count is answered as the ledger promises
-pub record IsEnteredInLedger (call : Call) (r : Result Entry Refusal) (b b' : Book) : Type 0 where
+pub record ChangesLedgerOnly (call : Call) (r : Result Entry Refusal) (b b' : Book) : Type 0 where
   pub sheet : b'.sheet ≡ b.sheet
-  pub answered : ledgers.Answered call b.ledger r b'.ledger
+  pub answered : Answered call b.ledger r b'.ledger
   pub beyond : beyond_days b'.ledger ≡ beyond_days b.ledger
   pub no_count : enters_count call ≡ false
 
@@ -80,4 +80,4 @@ pub record IsEnteredInLedger (call : Call) (r : Result Entry Refusal) (b b' : Bo
 abbrev pub SheetTakes : Entry → Ledger → Meaning → Sheet → Sheet → Type 0
 SheetTakes e l m b b' =
     (s : Setting) (rest : List ℕ) (h : History)
-    → Lawful s (e ∷ h) → ledgers.Follows s (e ∷ h) l → Estimates s (e ∷ h) m → Stands s rest h b → Stands s rest (e ∷ h) b'
+    → Lawful s (e ∷ h) → Follows s (e ∷ h) l → Estimates s (e ∷ h) m → Stands s rest h b → Stands s rest (e ∷ h) b'

@@ -38,7 +38,7 @@ rest_of q lists = record {
 -- the case that a book opens in, in the memory of these lists and beside an estimator that means this: nothing is accepted yet
 abbrev pub opening_case : OpeningRequest → Lists → Meanings → Case
 opening_case q lists m = record {
-  setting = setting_of q (vec_len lists.readings) m.figures m.under;
+  setting = setting_of q (vec_len lists.readings) m.current m.under;
   rest = rest_of q lists;
   history = [];
 }
@@ -47,7 +47,7 @@ opening_case q lists m = record {
 abbrev pub OpensBook : OpeningRequest → Lists → Result Book (Unopened Lists) → Type 0
 OpensBook q lists (Ok b) =
     (book_opening_refusal q lists ≡ None)
-    × ((m : Meanings) → Bounded m.figures → BoundedUnder m.under → IsBookOf (opening_case q lists m) b m)
+    × ((m : Meanings) → Bounded m.current → BoundedUnder m.under → IsBookOf (opening_case q lists m) b m)
 OpensBook q lists (Err e) = book_opening_refusal q lists ≡ Some (number_of e.refusal)
 
 -- an opening is accepted or refused by these

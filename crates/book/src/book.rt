@@ -126,7 +126,7 @@ impl Book {
 
 // Entries. Each is judged and held by the ledger first, and then taken in by the sheet.
 impl Book {
-    ghost use Rattle.book.specs.Book.{IsEnteredBeside, IsEnteredInLedger, IsServedByLaw, LeavesBookIfRefused, SheetTakes};
+    ghost use Rattle.book.specs.Book.{IsEnteredBeside, ChangesLedgerOnly, IsServedByLaw, LeavesBookIfRefused, SheetTakes};
     ghost use Rattle.book.specs.Meanings.{meanings_of};
     ghost use Rattle.book.specs.Replies.{entry_reply};
     ghost use Rattle.book.specs.declared.book.Book.{Book};
@@ -159,7 +159,7 @@ impl Book {
         answer: Result<Entry, Refusal>,
     ) -> Result<(), Refusal>
         ensures refused { (b : Book) → LeavesBookIfRefused answer b self.old → OnErr result (self.new ≡ b) }
-        ensures law { (call : Call) (b : Book) → IsEnteredInLedger call answer b self.old
+        ensures law { (call : Call) (b : Book) → ChangesLedgerOnly call answer b self.old
             → IsEnteredBeside (meanings_of (E.meaning estimator.now) (E.under estimator.now)) call result b self.new }
     {
         let entry = answer?;
