@@ -45,7 +45,8 @@ InEveryCase b m P = (c : Case) → IsBookOf c b m → P c
 
 -- a call is served: in every case its answer is the reply due, and the book then is that of the case after the call
 pub record IsServedByLaw
-    {X : Type 0} (call : Call) (says : X → Reply) (r : Result X Refusal) (b : Book) (m : Meanings) (b' : Book) (m' : Meanings)
+    {X : Type 0} (call : Call) (says : X → Reply) (r : Result X Refusal)
+    (b : Book) (m : Meanings) (b' : Book) (m' : Meanings)
     : Type 0 where
   pub law :
       InEveryCase b m
@@ -56,7 +57,9 @@ abbrev pub IsEnteredBeside : Meanings → Call → Result (Unit {0}) Refusal →
 IsEnteredBeside m call r b b' = IsServedByLaw call entry_reply r b m b' m
 
 -- a question is answered: in every case by the reply due
-pub record IsAnsweredByLaw {X : Type 0} (call : Call) (says : X → Reply) (r : Result X Refusal) (b : Book) (m : Meanings) : Type 0 where
+pub record IsAnsweredByLaw
+    {X : Type 0} (call : Call) (says : X → Reply) (r : Result X Refusal) (b : Book) (m : Meanings)
+    : Type 0 where
   pub law : InEveryCase b m (λ c. reply_of says r ≡ due_reply c.setting c.history call)
 
 -- a call enters a degree-day count

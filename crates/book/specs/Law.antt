@@ -1,4 +1,5 @@
--- The law over every run of calls, whole: what holds of the sheet at every moment, what a call can move, and how calls are answered.
+-- The law over every run of calls, whole: what holds of the sheet at every moment, what a call can move, and
+-- how calls are answered.
 use Rattle.std.specs.Prelude.{◌≡◌, ℕ, ◌+◌, ◌-◌, ◌<◌, ◌≤◌, true, false, List, ◌∷◌, ◌++◌, map, length, take, ◌⊎◌, Some, Result, ◌≢◌, slice_index}
 use Rattle.std.specs.Option.{unwrap_or}
 use Rattle.rules.specs.Balance.{retailers_sum}
@@ -41,9 +42,9 @@ pub record Moment (s : Setting) (h : History) : Type 0 where
   -- and there is never a remainder beside an excess
   pub never_both : (d n : ℕ) → load s h d ≡ Some n → 0 < remainder s h d n → 0 < excess s h d n → ⊥
 
--- a gate day or an interval energy moves only its day and days that a held reading joins to it; degree days only that day's
--- estimated figures; a reading only the days that it covers, and there only its point and estimated figures; an enrolment only
--- days from its start; a question nothing
+-- a gate day or an interval energy moves only its day and days that a held reading joins to it; degree days
+-- only that day's estimated figures; a reading only the days that it covers, and there only its point and
+-- estimated figures; an enrolment only days from its start; a question nothing
 abbrev pub Moves : Setting → History → Call → Type 0
 Moves s h (Enrol point retailer start) =
     (d : ℕ) → d < place s start → SameDay s h (history_after_call s h (Enrol point retailer start)) d
@@ -67,10 +68,14 @@ Moves s h (AskDay date) = history_after_call s h (AskDay date) ≡ h
 Moves s h (AskRetailer retailer date) = history_after_call s h (AskRetailer retailer date) ≡ h
 
 -- A book b beside an estimator that means m has served calls after case c, and given these answers.
-pub record Law (c : Case) (calls : List Call) (answers : List (Result Answer Refusal)) (b : Book) (m : Meanings) : Type 0 where
-  -- each call is answered or refused as the rules say of the calls accepted before it, by the first condition that holds
+pub record Law
+    (c : Case) (calls : List Call) (answers : List (Result Answer Refusal)) (b : Book) (m : Meanings)
+    : Type 0 where
+  -- each call is answered or refused as the rules say of the calls accepted before it, by the first condition
+  -- that holds
   pub answered : map given_reply (take (length calls) answers) ≡ due_replies c.setting c.history calls
-  -- lists, figures and estimator are what the rules make of the calls accepted so far, and so is the answer to any question
+  -- lists, figures and estimator are what the rules make of the calls accepted so far, and so is the answer to
+  -- any question
   pub follows : IsBookOf (case_after_calls c calls) b m
   -- and so they were at every moment, after the calls before it
   pub moments :

@@ -13,7 +13,8 @@ use Rattle.book.specs.Meanings.{Meanings}
 use Rattle.book.specs.declared.book.Book.{Book}
 use Rattle.book.specs.declared.book.Lists.{Lists}
 
--- 15: the sheet list has fewer places than days times points, the interval list fewer than 32 a day, or the reading list none
+-- 15: the sheet list has fewer places than days times points, the interval list fewer than 32 a day, or the
+-- reading list none
 abbrev pub are_book_lists_short : OpeningRequest → Lists → Bool
 are_book_lists_short q lists =
     not
@@ -35,7 +36,8 @@ rest_of q lists = record {
   intervals = drop (q.days * meters) (vec_items lists.intervals);
 }
 
--- the case that a book opens in, in the memory of these lists and beside an estimator that means this: nothing is accepted yet
+-- the case that a book opens in, in the memory of these lists and beside an estimator that means this: nothing
+-- is accepted yet
 abbrev pub opening_case : OpeningRequest → Lists → Meanings → Case
 opening_case q lists m = record {
   setting = setting_of q (vec_len lists.readings) m.current m.under;

@@ -58,7 +58,8 @@ abbrev pub unless_refused : Option ℕ → (ℕ → Option ℕ) → Reply → Re
 unless_refused None named r = r
 unless_refused (Some n) named r = refused n (named n)
 
--- the reply that is due to a call: the first refusal whose condition holds, with the day that it names, or what the rules grant
+-- the reply that is due to a call: the first refusal whose condition holds, with the day that it names, or what
+-- the rules grant
 abbrev pub due_reply : Setting → History → Call → Reply
 due_reply s h call = unless_refused (refusal s h call) (named_by s h call) (granted_reply s h call)
 
@@ -80,8 +81,8 @@ abbrev pub history_after_calls : Setting → History → List Call → History
 history_after_calls s h [] = h
 history_after_calls s h (call ∷ calls) = history_after_calls s (history_after_call s h call) calls
 
--- a call is judged: where nothing refuses it, it is accepted, and P holds of what is given; else it is refused by that number,
--- with the day that is named under it
+-- a call is judged: where nothing refuses it, it is accepted, and P holds of what is given; else it is refused
+-- by that number, with the day that is named under it
 abbrev pub IsJudgedBy : {X : Type 0} → Option ℕ → (ℕ → Option ℕ) → (X → Type 0) → Result X Refusal → Type 0
 IsJudgedBy refusal named P (Ok x) = (refusal ≡ None) × P x
 IsJudgedBy refusal named P (Err e) = (refusal ≡ Some (number_of e)) × (day_named e ≡ named (number_of e))

@@ -39,10 +39,10 @@ pub struct Days {
 
 /// The book of one distribution area: what it has accepted, and the figures that the rules make of it.
 ///
-/// A book is told by entries (`enrol`, `enter_gate`, `enter_interval`, `enter_degree_days`, `enter_reading`) and asked by
-/// questions (`ask_figure`, `ask_day`, `ask_retailer`). An estimator stands beside it and is passed to each call that needs it:
-/// it must be the one beside which the book was opened.
-/// Dates are numbers of eight digits, as 20240701. A refused call changes nothing.
+/// A book is told by entries (`enrol`, `enter_gate`, `enter_interval`, `enter_degree_days`, `enter_reading`)
+/// and asked by questions (`ask_figure`, `ask_day`, `ask_retailer`). An estimator stands beside it and is
+/// passed to each call that needs it: it must be the one beside which the book was opened. Dates are numbers of
+/// eight digits, as 20240701. A refused call changes nothing.
 #[derive(Drop)]
 pub struct Book {
     ledger: Ledger,
@@ -66,11 +66,13 @@ impl Book {
         Ok(())
     }
 
-    /// A book that has accepted nothing, from a first date on, in the memory of three lists. What the lists hold beyond the
-    /// book's places stays as it is. Where the opening is refused, all three come back as they were.
+    /// A book that has accepted nothing, from a first date on, in the memory of three lists. What the lists
+    /// hold beyond the book's places stays as it is. Where the opening is refused, all three come back as they
+    /// were.
     ///
-    /// Refusals: `BeyondLimits` (3) where the days are not 1 to 400, the points not 1 to 256, the unaccounted-for gas is more
-    /// than 2,000 ten-thousandths, or the last day is later than 30 December 2099; `NoSuchDate` (4); `ListTooShort` (15).
+    /// Refusals: `BeyondLimits` (3) where the days are not 1 to 400, the points not 1 to 256, the
+    /// unaccounted-for gas is more than 2,000 ten-thousandths, or the last day is later than 30 December 2099;
+    /// `NoSuchDate` (4); `ListTooShort` (15).
     pub fn open(request: OpeningRequest, lists: Lists) -> Result<Book, Unopened<Lists>>
         ensures law { OpensBook request lists result }
         ensures refused { IfErr result (λ e. e.lists ≡ lists) }
@@ -134,7 +136,8 @@ impl Book {
     // Works out anew what an entry can move, once the ledger holds it.
     fn follow<E: Estimator>(&mut self, estimator: &E, entry: Entry)
         ensures ledger { self.new.ledger ≡ self.old.ledger }
-        ensures law { SheetTakes entry self.old.ledger (E.meaning estimator.now) self.old.sheet self.new.sheet }
+        ensures law { SheetTakes entry self.old.ledger (E.meaning estimator.now)
+            self.old.sheet self.new.sheet }
     {
         let sources = Sources {
             ledger: &self.ledger,
@@ -152,7 +155,8 @@ impl Book {
         }
     }
 
-    // Takes in what the ledger has answered: what an accepted entry can move is worked out anew, and a refusal is handed on.
+    // Takes in what the ledger has answered: what an accepted entry can move is worked out anew, and a refusal
+    // is handed on.
     fn take_in<E: Weather>(
         &mut self,
         estimator: &E,
@@ -160,7 +164,8 @@ impl Book {
     ) -> Result<(), Refusal>
         ensures refused { (b : Book) → LeavesBookIfRefused answer b self.old → OnErr result (self.new ≡ b) }
         ensures law { (call : Call) (b : Book) → ChangesLedgerOnly call answer b self.old
-            → IsEnteredBeside (meanings_of (E.meaning estimator.now) (E.under estimator.now)) call result b self.new }
+            → IsEnteredBeside
+            (meanings_of (E.meaning estimator.now) (E.under estimator.now)) call result b self.new }
     {
         let entry = answer?;
         self.follow(estimator, entry);
@@ -192,8 +197,8 @@ impl Book {
 
     /// Gives a point its retailer and its start date. A point is enrolled once.
     ///
-    /// Refusals: `BeyondLimits` (3) where the book has no such point or the retailer is not 1 to 16; `NoSuchDate` (4);
-    /// `OutsideBook` (5); `PointEnrolledAlready` (8).
+    /// Refusals: `BeyondLimits` (3) where the book has no such point or the retailer is not 1 to 16;
+    /// `NoSuchDate` (4); `OutsideBook` (5); `PointEnrolledAlready` (8).
     pub fn enrol<E: Weather>(
         &mut self,
         estimator: &E,
@@ -209,7 +214,8 @@ impl Book {
         self.take_in(estimator, answer)
     }
 
-    /// Enters the energy into and out of the area on a day, in megajoules. A later entry for a day replaces the earlier one.
+    /// Enters the energy into and out of the area on a day, in megajoules. A later entry for a day replaces the
+    /// earlier one.
     ///
     /// Refusals: `BeyondLimits` (3) where an energy is more than 1,000,000,000; `NoSuchDate` (4); `OutsideBook` (5).
     pub fn enter_gate<E: Weather>(
@@ -227,11 +233,11 @@ impl Book {
         self.take_in(estimator, answer)
     }
 
-    /// Enters the energy of an interval meter on a day, in megajoules. A later entry for a meter and day replaces the earlier
-    /// one.
+    /// Enters the energy of an interval meter on a day, in megajoules. A later entry for a meter and day
+    /// replaces the earlier one.
     ///
-    /// Refusals: `BeyondLimits` (3) where the meter is not 1 to 32 or the energy is more than 100,000,000; `NoSuchDate` (4);
-    /// `OutsideBook` (5).
+    /// Refusals: `BeyondLimits` (3) where the meter is not 1 to 32 or the energy is more than 100,000,000;
+    /// `NoSuchDate` (4); `OutsideBook` (5).
     pub fn enter_interval<E: Weather>(
         &mut self,
         estimator: &E,
@@ -265,12 +271,13 @@ impl Book {
         self.take_count(estimator, day, count)
     }
 
-    /// Takes a reading of a point from a start date to the day before an end date, with its energy in megajoules. It replaces
-    /// the readings of which it covers a day.
+    /// Takes a reading of a point from a start date to the day before an end date, with its energy in
+    /// megajoules. It replaces the readings of which it covers a day.
     ///
-    /// Refusals: `BeyondLimits` (3) where the book has no such point or the energy is more than 10,000,000; `NoSuchDate` (4);
-    /// `OutsideBook` (5), the end being at most the day after the book's last; `NegativeEnergy` (6); `PointNotEnrolled` (7);
-    /// `StartIsNoMark` (9); `EndNotAllowed` (10); `CoveredDayWithoutLoad` (11); `SoftOverFirm` (12); `ReadingPlacesFull` (13).
+    /// Refusals: `BeyondLimits` (3) where the book has no such point or the energy is more than 10,000,000;
+    /// `NoSuchDate` (4); `OutsideBook` (5), the end being at most the day after the book's last;
+    /// `NegativeEnergy` (6); `PointNotEnrolled` (7); `StartIsNoMark` (9); `EndNotAllowed` (10);
+    /// `CoveredDayWithoutLoad` (11); `SoftOverFirm` (12); `ReadingPlacesFull` (13).
     pub fn enter_reading<E: Weather>(
         &mut self,
         estimator: &E,
@@ -302,7 +309,9 @@ impl Book {
 
     // The day of the book of a day number.
     fn day_of_number(&self, number: u32) -> Result<u32, Refusal>
-        ensures { Answers result (within_days self.now.ledger.opening 0 number) (number - self.now.ledger.opening.first) 5 }
+        ensures { Answers result
+            (within_days self.now.ledger.opening 0 number)
+            (number - self.now.ledger.opening.first) 5 }
     {
         let opening = self.ledger.opening();
         if !(opening.first..opening.first + opening.days).contains(&number) {
@@ -313,8 +322,8 @@ impl Book {
 
     /// The days of the book from a first date to a last one, both included.
     ///
-    /// Refusals: `NoSuchDate` (4) where either date does not exist; `OutsideBook` (5) where either lies outside the book;
-    /// `EndNotAllowed` (10) where the last is before the first.
+    /// Refusals: `NoSuchDate` (4) where either date does not exist; `OutsideBook` (5) where either lies outside
+    /// the book; `EndNotAllowed` (10) where the last is before the first.
     pub fn days_of(&self, first: u32, last: u32) -> Result<Days, Refusal>
         ensures { TellsDays first last result self.now }
     {
@@ -336,7 +345,8 @@ impl Book {
     ///
     /// Refusals: `OutsideBook` (5) where the book has no such day; `AskedDayWithoutLoad` (14).
     pub fn day_account<E: Weather>(&self, estimator: &E, day: u32) -> Result<DayFigures, Refusal>
-        ensures { TellsAccount day result self.now (meanings_of (E.meaning estimator.now) (E.under estimator.now)) }
+        ensures { TellsAccount day result self.now
+            (meanings_of (E.meaning estimator.now) (E.under estimator.now)) }
     {
         if day >= self.ledger.opening().days {
             return Err(Refusal::OutsideBook);
@@ -354,8 +364,8 @@ impl Book {
         }
     }
 
-    /// What the figures of a retailer's points come to on a day, counted from 0, the book's first: in megajoules, and 0 for a
-    /// retailer without a point.
+    /// What the figures of a retailer's points come to on a day, counted from 0, the book's first: in
+    /// megajoules, and 0 for a retailer without a point.
     ///
     /// Refusal: `OutsideBook` (5) where the book has no such day.
     pub fn day_sum(&self, retailer: u32, day: u32) -> Result<u64, Refusal>

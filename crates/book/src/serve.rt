@@ -27,7 +27,8 @@ pub enum Answer {
     RetailerSum(u64),
 }
 
-/// A book that was opened, and whether its calls were served: `ListTooShort` (15) where there was no room for all answers.
+/// A book that was opened, and whether its calls were served: `ListTooShort` (15) where there was no room for
+/// all answers.
 #[derive(Drop)]
 pub struct Served {
     pub book: Book,
@@ -79,8 +80,8 @@ impl Book {
         }
     }
 
-    /// Serves calls in their order, with the answer to each in its place. A call that is refused is the answer, and those
-    /// after it are served all the same. Later places of the answers stay as they are.
+    /// Serves calls in their order, with the answer to each in its place. A call that is refused is the answer,
+    /// and those after it are served all the same. Later places of the answers stay as they are.
     ///
     /// Refusal: `ListTooShort` (15) where there is no room for all answers, and then no call is served.
     pub fn serve<E: Weather>(
@@ -90,7 +91,8 @@ impl Book {
         answers: &mut [Result<Answer, Refusal>],
     ) -> Result<(), Refusal>
         ensures answer { AcceptedWhen result (nat_le (length calls.now) (length answers.old)) 15 }
-        ensures refused { OnErr result ((self.new ≡ self.old) × (estimator.new ≡ estimator.old) × (answers.new ≡ answers.old)) }
+        ensures refused { OnErr result
+            ((self.new ≡ self.old) × (estimator.new ≡ estimator.old) × (answers.new ≡ answers.old)) }
         ensures rest { drop (length calls.now) answers.new ≡ drop (length calls.now) answers.old }
 
         // Questions and refused calls leave book and estimator as they were.
@@ -98,7 +100,8 @@ impl Book {
             → (self.new ≡ self.old) × (estimator.new ≡ estimator.old) }
         ensures law { OnOk result
             (InEveryCase self.old (meanings_of (E.meaning estimator.old) (E.under estimator.old))
-            (λ c. Law c calls.now answers.new self.new (meanings_of (E.meaning estimator.new) (E.under estimator.new)))) }
+            (λ c. Law c calls.now answers.new self.new
+            (meanings_of (E.meaning estimator.new) (E.under estimator.new)))) }
     {
         if answers.len() < calls.len() {
             return Err(Refusal::ListTooShort);
@@ -109,8 +112,8 @@ impl Book {
         Ok(())
     }
 
-    /// Opens a book and serves calls on it. Where the opening is refused, as by `open`, lists, estimator and answers are as
-    /// they were.
+    /// Opens a book and serves calls on it. Where the opening is refused, as by `open`, lists, estimator and
+    /// answers are as they were.
     pub fn open_and_serve<E: Weather>(
         request: OpeningRequest,
         lists: Lists,
@@ -119,18 +122,23 @@ impl Book {
         answers: &mut [Result<Answer, Refusal>],
     ) -> Result<Served, Unopened<Lists>>
         ensures opened { OpensByRules request lists result }
-        ensures refused { IfErr result (λ e. (e.lists ≡ lists) × (estimator.new ≡ estimator.old) × (answers.new ≡ answers.old)) }
-        ensures served { IfOk result (λ served. AcceptedWhen served.outcome (nat_le (length calls.now) (length answers.old)) 15) }
+        ensures refused { IfErr result
+            (λ e. (e.lists ≡ lists) × (estimator.new ≡ estimator.old) × (answers.new ≡ answers.old)) }
+        ensures served { IfOk result
+            (λ served. AcceptedWhen served.outcome (nat_le (length calls.now) (length answers.old)) 15) }
         ensures unserved { IfOk result
             (λ served. is_ok served.outcome ≡ false
             → (estimator.new ≡ estimator.old) × (answers.new ≡ answers.old)
-            × IsBookOf (opening_case request lists (meanings_of (E.meaning estimator.old) (E.under estimator.old)))
+            × IsBookOf
+            (opening_case request lists (meanings_of (E.meaning estimator.old) (E.under estimator.old)))
             served.book (meanings_of (E.meaning estimator.old) (E.under estimator.old))) }
         ensures rest { OnOk result (drop (length calls.now) answers.new ≡ drop (length calls.now) answers.old) }
         ensures law { IfOk result
             (λ served. is_ok served.outcome ≡ true
-            → Law (opening_case request lists (meanings_of (E.meaning estimator.old) (E.under estimator.old)))
-            calls.now answers.new served.book (meanings_of (E.meaning estimator.new) (E.under estimator.new))) }
+            → Law
+            (opening_case request lists (meanings_of (E.meaning estimator.old) (E.under estimator.old)))
+            calls.now answers.new served.book
+            (meanings_of (E.meaning estimator.new) (E.under estimator.new))) }
     {
         let mut book = Book::open(request, lists)?;
         let outcome = book.serve(estimator, calls, answers);

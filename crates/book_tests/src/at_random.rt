@@ -1,5 +1,5 @@
-// Three hundred lists of calls drawn at random, each on a book of its own beside the weather estimator, and every answer
-// and figure held to a recomputation from the accepted calls.
+// Three hundred lists of calls drawn at random, each on a book of its own beside the weather estimator, and
+// every answer and figure held to a recomputation from the accepted calls.
 use super::calls::{
     Case, begins, day, degree_days, enrol, figure, gate, interval, opened, reading, retailer,
     serve_table,

@@ -1,4 +1,5 @@
-// What the rules make of the calls that a book accepted, worked out from nothing each time. It shares no code with the book.
+// What the rules make of the calls that a book accepted, worked out from nothing each time. It shares no code
+// with the book.
 use estimates::Factors;
 use std::alloc::{AllocError, Global};
 use std::ops::Range;
@@ -99,8 +100,8 @@ fn share_a_day(one: &Taken, other: &Taken) -> bool {
     one.point == other.point && one.start < other.end && other.start < one.end
 }
 
-// A day with a load weighs its load, and one with none of it weighs 1. The loads of all days are worked out once for a
-// comparison, so they go along as a list.
+// A day with a load weighs its load, and one with none of it weighs 1. The loads of all days are worked out
+// once for a comparison, so they go along as a list.
 fn weight(loads: &[Option<u64>], day: u32) -> u64 {
     loads
         .get(day as usize)

@@ -114,8 +114,8 @@ fn lists_of_the_small_book(rt: HostRuntime) -> Result<(), Fail> {
     Ok(())
 }
 
-// Opens a book with lists of these lengths, full of sevens and with a reading in every place. Answers why it was refused,
-// and whether the lists came back as they were.
+// Opens a book with lists of these lengths, full of sevens and with a reading in every place. Answers why it
+// was refused, and whether the lists came back as they were.
 fn refused_opening(
     rt: &(impl Abort + AllocGlobal),
     request: OpeningRequest,

@@ -133,7 +133,8 @@ const LATE_INTERVALS: [Call; 5] = [
     },
 ];
 
-// The reading of point 2 once more, and an actual reading of point 1 over the days of its estimate, which cannot come back.
+// The reading of point 2 once more, and an actual reading of point 1 over the days of its estimate, which
+// cannot come back.
 const REPLACED: [Call; 5] = [
     Call::EnterReading(Delivery {
         point: 2,

@@ -1,4 +1,5 @@
-// A month in the life of a book: what it is told and asked, call by call with its answer, and then its sheet and its days.
+// A month in the life of a book: what it is told and asked, call by call with its answer, and then its sheet
+// and its days.
 #![tactic(auto)]
 
 mod calls;

@@ -1,4 +1,5 @@
-// Calls and answers in words. Each type of another crate is shown by one of this program, since only that may have a `Display`.
+// Calls and answers in words. Each type of another crate is shown by one of this program, since only that may
+// have a `Display`.
 use book::Answer;
 use rules::{Call, Delivery};
 use sheet::DayFigures;

@@ -19,8 +19,8 @@ use Rattle.statements.specs.declared.statement.Span.{Span}
 use Rattle.statements.specs.declared.statement.Statement.{Statement}
 use Rattle.statements.specs.declared.sums.Sums.{Sums}
 
--- the refusal of a draw over a span into a list of so many places, of which so many are wanted; none where it is drawn:
--- 14 where a day has no load, 15 where the list is too short
+-- the refusal of a draw over a span into a list of so many places, of which so many are wanted; none where it
+-- is drawn: 14 where a day has no load, 15 where the list is too short
 abbrev pub draw_refusal : Setting → History → Span → ℕ → ℕ → Option ℕ
 draw_refusal s h span wanted places =
     first_holding
@@ -56,14 +56,18 @@ pub record JudgesLoads (days : Days) (r : Result (Unit {0}) Refusal) (b : Book) 
       (loads_named c.setting c.history days.first days.count) (λ _. Unit {0}) r)
 
 -- a draw is judged, and gives the days of its span, each with a load
-pub record JudgesDraw (span : Span) (wanted places : ℕ) (r : Result Days Refusal) (b : Book) (m : Meanings) : Type 0 where
+pub record JudgesDraw
+    (span : Span) (wanted places : ℕ) (r : Result Days Refusal) (b : Book) (m : Meanings)
+    : Type 0 where
   pub law :
       InEveryCase b m
       (λ c. IsJudgedBy (draw_refusal c.setting c.history span wanted places) (draw_named c.setting c.history span)
       (λ days. AreDaysOf c.setting span.first span.last days × HasLoads c.setting c.history span) r)
 
 -- a draw is judged, and gives the sums of its span
-pub record GivesSums (span : Span) (wanted places : ℕ) (r : Result Sums Refusal) (b : Book) (m : Meanings) : Type 0 where
+pub record GivesSums
+    (span : Span) (wanted places : ℕ) (r : Result Sums Refusal) (b : Book) (m : Meanings)
+    : Type 0 where
   pub law :
       InEveryCase b m
       (λ c. IsJudgedBy (draw_refusal c.setting c.history span wanted places) (draw_named c.setting c.history span)
@@ -114,6 +118,7 @@ pub record IsDrawRefused (span : Span) (wanted places : ℕ) (b : Book) (m : Mea
       × (day_named e ≡ draw_named c.setting c.history span (number_of e)))
 
 -- the one or the other, given what a value says and why an error refuses
-abbrev pub DrawsByLaw : {X Y : Type 0} → (X → Statement) → (Y → Refusal) → Span → ℕ → ℕ → Book → Meanings → Result X Y → Type 0
+abbrev pub DrawsByLaw :
+    {X Y : Type 0} → (X → Statement) → (Y → Refusal) → Span → ℕ → ℕ → Book → Meanings → Result X Y → Type 0
 DrawsByLaw says why span wanted places b m (Ok x) = IsDrawn span wanted places b m (says x)
 DrawsByLaw says why span wanted places b m (Err e) = IsDrawRefused span wanted places b m (why e)

@@ -45,7 +45,8 @@ pub record AdjustmentsLeadOn : Type 0 where
 pub record SpansAreJudgedAndSummed : Type 0 where
   -- a span that nothing refuses: its dates exist, and its days lie in the book, one or more
   pub dates :
-      (s : Setting) (span : Span) → span_refusal s span ≡ None → (is_date span.first ≡ true) × (is_date span.last ≡ true)
+      (s : Setting) (span : Span) → span_refusal s span ≡ None
+      → (is_date span.first ≡ true) × (is_date span.last ≡ true)
   pub days :
       (s : Setting) (span : Span) → span_refusal s span ≡ None
       → (0 < span_day_count span) × (place s span.first + span_day_count span ≤ s.days)

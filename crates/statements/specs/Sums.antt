@@ -17,8 +17,8 @@ retailer_over s h k span = sum_over_span s (retailer_sum s h k) span
 abbrev pub remainder_on : Setting → History → ℕ → ℕ
 remainder_on s h d = remainder s h d (unwrap_or (load s h d) 0)
 
--- what is left to the host retailer over a span: the remainders of its days added up, none of which an excess of another day
--- lowers
+-- what is left to the host retailer over a span: the remainders of its days added up, none of which an excess
+-- of another day lowers
 abbrev pub remainder_over : Setting → History → Span → ℕ
 remainder_over s h span = sum_over_span s (remainder_on s h) span
 

@@ -21,8 +21,8 @@ fn judge_loads<E: Weather>(book: &Book, estimator: &E, days: Days) -> Result<(),
     Ok(())
 }
 
-// Judges the draw of a stage into a list that has places for what is wanted, and gives the days of its span. A first stage and
-// a later one are judged alike: the book that a later one is given may be another.
+// Judges the draw of a stage into a list that has places for what is wanted, and gives the days of its span. A
+// first stage and a later one are judged alike: the book that a later one is given may be another.
 fn judge_draw<E: Weather>(
     book: &Book,
     estimator: &E,
@@ -31,7 +31,8 @@ fn judge_draw<E: Weather>(
     wanted: usize,
 ) -> Result<Days, Refusal>
     ensures room { OnOk result (wanted ≤ places) }
-    ensures law { JudgesDraw span wanted places result book.now (meanings_of (E.meaning estimator.now) (E.under estimator.now)) }
+    ensures law { JudgesDraw span wanted places result book.now
+        (meanings_of (E.meaning estimator.now) (E.under estimator.now)) }
 {
     let days = book.days_of(span.first, span.last)?;
     judge_loads(book, estimator, days)?;
@@ -46,7 +47,8 @@ fn sum_over<F: Fn(u32) -> Result<u64, Refusal>>(days: Days, ask: F) -> Result<u6
     requires { F.IsAlwaysCallable ask }
     ensures fits { IfOk result (λ sum. sum ≤ largest_sum) }
     ensures law { (f : ℕ → ℕ)
-        → ((k : ℕ) (r : Result ℕ Refusal) → k < days.count → F.post ask (days.first + k) r → r ≡ Result.Ok (f (days.first + k)))
+        → ((k : ℕ) (r : Result ℕ Refusal) → k < days.count → F.post ask (days.first + k) r
+        → r ≡ Result.Ok (f (days.first + k)))
         → result ≡ Result.Ok (min (sum_over f days.first days.count) largest_sum) }
 {
     let mut total = 0u64;
@@ -68,12 +70,14 @@ fn retailer_over(book: &Book, retailer: u32, days: Days) -> Result<u64, Refusal>
 
 // What is left to the host retailer on a day with a load.
 fn remainder_on<E: Weather>(book: &Book, estimator: &E, day: u32) -> Result<u64, Refusal>
-    ensures { TellsRemainder day result book.now (meanings_of (E.meaning estimator.now) (E.under estimator.now)) }
+    ensures { TellsRemainder day result book.now
+        (meanings_of (E.meaning estimator.now) (E.under estimator.now)) }
 {
     Ok(book.day_account(estimator, day)?.remainder)
 }
 
-// What is left to the host retailer over some days: the remainders of the days added up. An excess lowers none of them.
+// What is left to the host retailer over some days: the remainders of the days added up. An excess lowers none
+// of them.
 fn remainder_over<E: Weather>(book: &Book, estimator: &E, days: Days) -> Result<u64, Refusal>
     ensures fits { IfOk result (λ sum. sum ≤ largest_sum) }
     ensures law { SumsRemainder days result book.now (meanings_of (E.meaning estimator.now) (E.under estimator.now)) }
@@ -105,7 +109,8 @@ pub(crate) fn sums_of<E: Weather>(
     wanted: usize,
 ) -> Result<Sums, Refusal>
     ensures room { OnOk result (wanted ≤ places) }
-    ensures law { GivesSums span wanted places result book.now (meanings_of (E.meaning estimator.now) (E.under estimator.now)) }
+    ensures law { GivesSums span wanted places result book.now
+        (meanings_of (E.meaning estimator.now) (E.under estimator.now)) }
 {
     let days = judge_draw(book, estimator, span, places, wanted)?;
     sums_over(book, estimator, days)

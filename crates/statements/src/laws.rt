@@ -1,6 +1,7 @@
 ghost use Rattle.statements.specs.Laws.{AdjustmentsLeadOn, SpansAreJudgedAndSummed, StatementsBalance};
 
-/// An adjustment added to the sum before it gives the new sum, and the adjustments of all stages what the last has more than the first.
+/// An adjustment added to the sum before it gives the new sum, and the adjustments of all stages what the last
+/// has more than the first.
 pub fn adjustments_lead_on()
     ensures { AdjustmentsLeadOn }
 {}

@@ -1,9 +1,10 @@
-//! Settlement statements: a span of days is settled by stages, each with what the days come to for every retailer and the host,
-//! and what was added since the stage before.
+//! Settlement statements: a span of days is settled by stages, each with what the days come to for every
+//! retailer and the host, and what was added since the stage before.
 //!
-//! Proved: a stage is drawn or refused as the rules say, and its sums are those of its span in the book that it is drawn from;
-//! adjustments added up lead from the first stage's sums to the last's; and the sums of a span balance with its loads.
-//! No stage can be copied, dropped or used twice: it is spent by the next stage or by its settlement.
+//! Proved: a stage is drawn or refused as the rules say, and its sums are those of its span in the book that it
+//! is drawn from; adjustments added up lead from the first stage's sums to the last's; and the sums of a span
+//! balance with its loads. No stage can be copied, dropped or used twice: it is spent by the next stage or by
+//! its settlement.
 #![tactic(auto)]
 
 mod draw;

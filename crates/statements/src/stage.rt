@@ -71,9 +71,10 @@ impl<K> Stage<K> {
         list: &mut [i64],
     ) -> Result<Stage<N>, Undrawn<K>>
         ensures refused { IfErr result (λ e. (e.stage ≡ self) × (list.new ≡ list.old)) }
-        ensures written { IfOk result (λ stage. list.new ≡ later_list self.statement.sums stage.statement.sums list.old) }
-        ensures law { DrawsByLaw (λ stage. stage.statement) (λ e. e.refusal) self.statement.span later_places (length list.old)
-            book.now (meanings_of (E.meaning estimator.now) (E.under estimator.now)) result }
+        ensures written { IfOk result
+            (λ stage. list.new ≡ later_list self.statement.sums stage.statement.sums list.old) }
+        ensures law { DrawsByLaw (λ stage. stage.statement) (λ e. e.refusal) self.statement.span
+            later_places (length list.old) book.now (meanings_of (E.meaning estimator.now) (E.under estimator.now)) result }
     {
         let span = self.statement.span;
         match sums_of(book, estimator, span, list.len(), LATER_PLACES) {
@@ -94,8 +95,8 @@ impl<K> Stage<K> {
 }
 
 impl Stage<Preliminary> {
-    /// Draws the first stage of a span, and writes its sums into the first 17 places of a list: each retailer's, in megajoules
-    /// and in the order of their numbers, then the host remainder's.
+    /// Draws the first stage of a span, and writes its sums into the first 17 places of a list: each
+    /// retailer's, in megajoules and in the order of their numbers, then the host remainder's.
     ///
     /// Refusals: `NoSuchDate` (4), `OutsideBook` (5) and `EndNotAllowed` (10) as `Book::days_of` gives them;
     /// `AskedDayWithoutLoad` (14) with the first day of the span that has no load; `ListTooShort` (15).
@@ -108,8 +109,8 @@ impl Stage<Preliminary> {
     ) -> Result<Stage<Preliminary>, Refusal>
         ensures refused { OnErr result (list.new ≡ list.old) }
         ensures written { IfOk result (λ stage. list.new ≡ first_list stage.statement.sums list.old) }
-        ensures law { DrawsByLaw (λ stage. stage.statement) (λ e. e) span sum_count (length list.old)
-            book.now (meanings_of (E.meaning estimator.now) (E.under estimator.now)) result }
+        ensures law { DrawsByLaw (λ stage. stage.statement) (λ e. e)
+            span sum_count (length list.old) book.now (meanings_of (E.meaning estimator.now) (E.under estimator.now)) result }
     {
         let sums = sums_of(book, estimator, span, list.len(), SUMS)?;
         sums.write(list);
@@ -119,8 +120,8 @@ impl Stage<Preliminary> {
         })
     }
 
-    /// Draws the final stage of the same span from a book, which may be another, and writes 34 numbers into the first places
-    /// of a list: what was added to each sum, which may be negative, and then the sums.
+    /// Draws the final stage of the same span from a book, which may be another, and writes 34 numbers into the
+    /// first places of a list: what was added to each sum, which may be negative, and then the sums.
     ///
     /// Refusals as of `draw`. A refused draw gives the stage back, and leaves the list as it was.
     pub fn draw_final<E: Weather>(
@@ -130,9 +131,10 @@ impl Stage<Preliminary> {
         list: &mut [i64],
     ) -> Result<Stage<Final>, Undrawn<Preliminary>>
         ensures refused { IfErr result (λ e. (e.stage ≡ self) × (list.new ≡ list.old)) }
-        ensures written { IfOk result (λ stage. list.new ≡ later_list self.statement.sums stage.statement.sums list.old) }
-        ensures law { DrawsByLaw (λ stage. stage.statement) (λ e. e.refusal) self.statement.span later_places (length list.old)
-            book.now (meanings_of (E.meaning estimator.now) (E.under estimator.now)) result }
+        ensures written { IfOk result
+            (λ stage. list.new ≡ later_list self.statement.sums stage.statement.sums list.old) }
+        ensures law { DrawsByLaw (λ stage. stage.statement) (λ e. e.refusal) self.statement.span
+            later_places (length list.old) book.now (meanings_of (E.meaning estimator.now) (E.under estimator.now)) result }
     {
         self.draw_next(book, estimator, list)
     }
@@ -149,9 +151,10 @@ impl<K: Revisable> Stage<K> {
         list: &mut [i64],
     ) -> Result<Stage<Revised>, Undrawn<K>>
         ensures refused { IfErr result (λ e. (e.stage ≡ self) × (list.new ≡ list.old)) }
-        ensures written { IfOk result (λ stage. list.new ≡ later_list self.statement.sums stage.statement.sums list.old) }
-        ensures law { DrawsByLaw (λ stage. stage.statement) (λ e. e.refusal) self.statement.span later_places (length list.old)
-            book.now (meanings_of (E.meaning estimator.now) (E.under estimator.now)) result }
+        ensures written { IfOk result
+            (λ stage. list.new ≡ later_list self.statement.sums stage.statement.sums list.old) }
+        ensures law { DrawsByLaw (λ stage. stage.statement) (λ e. e.refusal) self.statement.span
+            later_places (length list.old) book.now (meanings_of (E.meaning estimator.now) (E.under estimator.now)) result }
     {
         self.draw_next(book, estimator, list)
     }

@@ -47,8 +47,9 @@ fn revised(stage: Stage<Revised>, area: &Area, list: &mut [i64]) -> Result<Stage
     }
 }
 
-// Up and down: the reading of point 2 lowers what retailer 16 is charged by 50, the revised gate day raises the remainder. The
-// second revision charges retailer 1 more, and the excess of the last day lowers no other day's remainder.
+// Up and down: the reading of point 2 lowers what retailer 16 is charged by 50, the revised gate day raises the
+// remainder. The second revision charges retailer 1 more, and the excess of the last day lowers no other day's
+// remainder.
 #[test]
 fn adjustments_up_and_down(rt: HostRuntime) -> Result<(), Fail> {
     let at_first = area_told(&rt, 4, &[&begun(), &complete()])?;
