@@ -247,7 +247,7 @@ fn enter_gates(calls: &mut Vec<Call>, first: u32, gates: &[(u64, u64)]) -> Resul
 }
 
 // What the book is told, with a few questions on the way.
-pub(crate) fn told(heap: Global) -> Result<Vec<Call>, AllocError> {
+pub(crate) fn july_calls(heap: Global) -> Result<Vec<Call>, AllocError> {
     let mut calls = Vec::new(heap);
     calls.extend_from_slice(&ENROLMENTS)?;
     enter_counts(&mut calls)?;

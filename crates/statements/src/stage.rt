@@ -74,7 +74,8 @@ impl<K> Stage<K> {
         ensures written { IfOk result
             (λ stage. list.new ≡ later_list self.statement.sums stage.statement.sums list.old) }
         ensures law { DrawsByLaw (λ stage. stage.statement) (λ e. e.refusal) self.statement.span
-            later_places (length list.old) book.now (meanings_of (E.meaning estimator.now) (E.under estimator.now)) result }
+            later_places (length list.old) book.now
+            (meanings_of (E.meaning estimator.now) (E.under estimator.now)) result }
     {
         let span = self.statement.span;
         match sums_of(book, estimator, span, list.len(), LATER_PLACES) {
@@ -110,7 +111,8 @@ impl Stage<Preliminary> {
         ensures refused { OnErr result (list.new ≡ list.old) }
         ensures written { IfOk result (λ stage. list.new ≡ first_list stage.statement.sums list.old) }
         ensures law { DrawsByLaw (λ stage. stage.statement) (λ e. e)
-            span sum_count (length list.old) book.now (meanings_of (E.meaning estimator.now) (E.under estimator.now)) result }
+            span sum_count (length list.old) book.now
+            (meanings_of (E.meaning estimator.now) (E.under estimator.now)) result }
     {
         let sums = sums_of(book, estimator, span, list.len(), SUMS)?;
         sums.write(list);
@@ -134,7 +136,8 @@ impl Stage<Preliminary> {
         ensures written { IfOk result
             (λ stage. list.new ≡ later_list self.statement.sums stage.statement.sums list.old) }
         ensures law { DrawsByLaw (λ stage. stage.statement) (λ e. e.refusal) self.statement.span
-            later_places (length list.old) book.now (meanings_of (E.meaning estimator.now) (E.under estimator.now)) result }
+            later_places (length list.old) book.now
+            (meanings_of (E.meaning estimator.now) (E.under estimator.now)) result }
     {
         self.draw_next(book, estimator, list)
     }
@@ -154,7 +157,8 @@ impl<K: Revisable> Stage<K> {
         ensures written { IfOk result
             (λ stage. list.new ≡ later_list self.statement.sums stage.statement.sums list.old) }
         ensures law { DrawsByLaw (λ stage. stage.statement) (λ e. e.refusal) self.statement.span
-            later_places (length list.old) book.now (meanings_of (E.meaning estimator.now) (E.under estimator.now)) result }
+            later_places (length list.old) book.now
+            (meanings_of (E.meaning estimator.now) (E.under estimator.now)) result }
     {
         self.draw_next(book, estimator, list)
     }

@@ -1,7 +1,7 @@
 // A span from its preliminary to its second revision.
 use super::areas::{
-    Area, FIRST, IDLE, LAST, WHOLE_BOOK, area_told, begins, begun, complete, corrected, exceeded,
-    places,
+    Area, FIRST, IDLE, LAST, WHOLE_BOOK, area_with, begins, corrections, excess_reading,
+    first_calls, last_gate, places,
 };
 use statements::{Final, Preliminary, Revised, SUMS, Span, Stage, Statement, Undrawn};
 use std::process::Abort;
@@ -52,9 +52,18 @@ fn revised(stage: Stage<Revised>, area: &Area, list: &mut [i64]) -> Result<Stage
 // remainder.
 #[test]
 fn adjustments_up_and_down(rt: HostRuntime) -> Result<(), Fail> {
-    let at_first = area_told(&rt, 4, &[&begun(), &complete()])?;
-    let then = area_told(&rt, 4, &[&begun(), &complete(), &corrected()])?;
-    let at_last = area_told(&rt, 4, &[&begun(), &complete(), &corrected(), &exceeded()])?;
+    let at_first = area_with(&rt, 4, &[&first_calls(), &last_gate()])?;
+    let then = area_with(&rt, 4, &[&first_calls(), &last_gate(), &corrections()])?;
+    let at_last = area_with(
+        &rt,
+        4,
+        &[
+            &first_calls(),
+            &last_gate(),
+            &corrections(),
+            &excess_reading(),
+        ],
+    )?;
     let sums = [
         places(200, 90, 310),
         places(200, 40, 561),
@@ -94,7 +103,7 @@ fn sums_of(area: &Area, first: u32, last: u32) -> Result<[i64; SUMS], Fail> {
 // A span of one day, with its load and without gas, and spans over a day without gas.
 #[test]
 fn spans_of_few_days(rt: HostRuntime) -> Result<(), Fail> {
-    let area = area_told(&rt, 4, &[&begun(), &complete()])?;
+    let area = area_with(&rt, 4, &[&first_calls(), &last_gate()])?;
     let due = [
         (FIRST, FIRST, places(50, 30, 20)),
         (20240702, 20240702, places(150, 30, 120)),

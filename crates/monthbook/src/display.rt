@@ -1,5 +1,4 @@
-// Calls and answers in words. Each type of another crate is shown by one of this program, since only that may
-// have a `Display`.
+// Calls and answers in words.
 use book::Answer;
 use rules::{Call, Delivery};
 use sheet::DayFigures;

@@ -4,7 +4,7 @@ use super::calls::{
     Case, begins, day, degree_days, enrol, figure, gate, interval, opened, reading, retailer,
     serve_table,
 };
-use super::recomputed::{Area, Count, Enrolled, Gate, Metered, Taken, Worked};
+use super::recomputation::{Area, Count, Enrolled, Gate, Metered, Taken, Worked};
 use book::{Answer, Book, OpeningRequest};
 use estimates::{ByWeather, Factors};
 use estimators::Weather;

@@ -13,7 +13,7 @@ const JULY: Span = Span {
 
 // What the stages wrote: sums, and in a later one the adjustments before them.
 #[derive(Clone, Copy, PartialEq, Eq, Debug)]
-pub(crate) struct Settled {
+pub(crate) struct Settlement {
     pub(crate) preliminary: [i64; SUMS],
     pub(crate) last: [i64; LATER_PLACES],
     pub(crate) revised: [i64; LATER_PLACES],
@@ -60,8 +60,8 @@ fn revise(
 }
 
 // All stages of July, one after another.
-pub(crate) fn settle(heap: Global) -> anyhow::Result<(Settled, Statement)> {
-    let mut settled = Settled {
+pub(crate) fn settle(heap: Global) -> anyhow::Result<(Settlement, Statement)> {
+    let mut settlement = Settlement {
         preliminary: [0; SUMS],
         last: [0; LATER_PLACES],
         revised: [0; LATER_PLACES],
@@ -73,9 +73,9 @@ pub(crate) fn settle(heap: Global) -> anyhow::Result<(Settled, Statement)> {
         &month.book,
         &month.estimator,
         JULY,
-        &mut settled.preliminary,
+        &mut settlement.preliminary,
     )?;
-    let last = finalise(&mut month, heap, preliminary, &mut settled.last)?;
-    let revised = revise(&mut month, heap, last, &mut settled.revised)?;
-    Ok((settled, revised.settle()))
+    let last = finalise(&mut month, heap, preliminary, &mut settlement.last)?;
+    let revised = revise(&mut month, heap, last, &mut settlement.revised)?;
+    Ok((settlement, revised.settle()))
 }

@@ -1,6 +1,6 @@
 // What refuses a draw, and what it leaves.
 use super::areas::{
-    Area, FIRST, IDLE, LAST, WHOLE_BOOK, area_told, begins, begun, complete, places,
+    Area, FIRST, IDLE, LAST, WHOLE_BOOK, area_with, begins, first_calls, last_gate, places,
 };
 use statements::{Final, LATER_PLACES, Preliminary, Revised, SUMS, Span, Stage, Undrawn};
 use std::process::Abort;
@@ -30,7 +30,7 @@ fn refusal(
 // The first reason that holds decides.
 #[test]
 fn spans_refused(rt: HostRuntime) -> Result<(), Fail> {
-    let area = area_told(&rt, 4, &[&begun()])?;
+    let area = area_with(&rt, 4, &[&first_calls()])?;
     let lacking = Refusal::AskedDayWithoutLoad { date: LAST };
     let due = [
         (20240732, IDLE, Refusal::NoSuchDate),
@@ -81,9 +81,9 @@ fn undrawn(
 // A later stage is judged by the book that it is drawn from. One that is refused comes back, and goes on.
 #[test]
 fn later_stages_refused(rt: HostRuntime) -> Result<(), Fail> {
-    let complete = area_told(&rt, 4, &[&begun(), &complete()])?;
-    let without_load = area_told(&rt, 4, &[&begun()])?;
-    let smaller = area_told(&rt, 3, &[])?;
+    let complete = area_with(&rt, 4, &[&first_calls(), &last_gate()])?;
+    let without_load = area_with(&rt, 4, &[&first_calls()])?;
+    let smaller = area_with(&rt, 3, &[])?;
     let mut list = [7; LATER_PLACES - 1];
 
     let stage = Stage::draw(
