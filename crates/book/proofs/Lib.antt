@@ -1,7 +1,8 @@
-pub mod Asked
-pub mod Counted
-pub mod Loaded
-pub mod Moment
+pub mod BookDays
+pub mod Calls
+pub mod DegreeDays
+pub mod Loads
+pub mod Moments
 pub mod Opening
+pub mod Questions
 pub mod Runs
-pub mod Steps

@@ -1,5 +1,7 @@
-pub mod Follows
+pub mod Book
+pub mod Case
+pub mod Days
 pub mod Law
-pub mod Moments
-pub mod Opened
+pub mod Meanings
+pub mod Opening
 pub mod Replies

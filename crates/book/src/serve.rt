@@ -1,21 +1,34 @@
-ghost use Rattle.std.specs.Prelude.{◌≡◌, true, false, T, [], length, take, drop, is_ok, IfOk, IfErr, OnErr, OnOk, nat_le};
+ghost use Rattle.std.specs.Prelude.{◌≡◌, true, false, T, length, take, drop, is_ok, IfOk, IfErr, OnErr, OnOk, nat_le};
 ghost use Rattle.std.specs.List.{list_all};
 ghost use Rattle.terms.specs.Answers.{AcceptedWhen};
-ghost use Rattle.rules.specs.History.{History, Setting};
-ghost use Rattle.book.specs.Follows.{Beyond, Follows};
+ghost use Rattle.book.specs.Book.{InEveryCase, IsBookOf, IsServedByLaw};
 ghost use Rattle.book.specs.Law.{Law};
-ghost use Rattle.book.specs.Opened.{Opens, rest_of, setting};
-ghost use Rattle.book.specs.Replies.{after, answer, leaves, reply};
+ghost use Rattle.book.specs.Meanings.{meanings_of};
+ghost use Rattle.book.specs.Opening.{OpensByRules, opening_case};
+ghost use Rattle.book.specs.Replies.{answer_reply, changes_nothing};
 
-use super::answer::Answer;
-use super::book::Book;
-use super::lists::Lists;
+use super::book::{Book, Lists};
 use estimators::{Estimator, Weather};
 use ledger::{OpeningRequest, Unopened};
 use rules::Call;
+use sheet::DayFigures;
 use terms::Refusal;
 
-// A book that was opened, and whether there was room for the answers to all calls.
+/// What a call that is not refused is answered. Energies are in megajoules.
+#[derive(Clone, Copy, PartialEq, Eq, Debug)]
+pub enum Answer {
+    /// An entry is accepted.
+    Accepted,
+    /// The figure of a point on a day.
+    Figure(u64),
+    /// The account of a day.
+    Day(DayFigures),
+    /// What the figures of a retailer's points come to on a day.
+    RetailerSum(u64),
+}
+
+/// A book that was opened, and whether its calls were served: `ListTooShort` (15) where there was no room for
+/// all answers.
 #[derive(Drop)]
 pub struct Served {
     pub book: Book,
@@ -25,8 +38,10 @@ pub struct Served {
 impl Book {
     // One call, whichever it is.
     fn serve_one<E: Weather>(&mut self, estimator: &mut E, call: Call) -> Result<Answer, Refusal>
-        ensures kept { leaves result ≡ true → (self.new ≡ self.old) × (estimator.new ≡ estimator.old) }
-        ensures law { (s : Setting) (rest : Beyond) (h : History) → Follows s rest h self.old (E.Estimator.meaning estimator.old) (E.Weather.under estimator.old) → (reply result ≡ answer s h call) × Follows s rest (after s h call) self.new (E.Estimator.meaning estimator.new) (E.Weather.under estimator.new) }
+        ensures kept { changes_nothing result ≡ true → (self.new ≡ self.old) × (estimator.new ≡ estimator.old) }
+        ensures law { IsServedByLaw call answer_reply result
+            self.old (meanings_of (E.meaning estimator.old) (E.under estimator.old))
+            self.new (meanings_of (E.meaning estimator.new) (E.under estimator.new)) }
     {
         match call {
             Call::Enrol {
@@ -65,7 +80,10 @@ impl Book {
         }
     }
 
-    // Serves calls in their order, with the answer to each. Where there is no room for all answers it serves none.
+    /// Serves calls in their order, with the answer to each in its place. A call that is refused is the answer,
+    /// and those after it are served all the same. Later places of the answers stay as they are.
+    ///
+    /// Refusal: `ListTooShort` (15) where there is no room for all answers, and then no call is served.
     pub fn serve<E: Weather>(
         &mut self,
         estimator: &mut E,
@@ -73,22 +91,29 @@ impl Book {
         answers: &mut [Result<Answer, Refusal>],
     ) -> Result<(), Refusal>
         ensures answer { AcceptedWhen result (nat_le (length calls.now) (length answers.old)) 15 }
-        ensures refused { OnErr result ((self.new ≡ self.old) × (estimator.new ≡ estimator.old) × (answers.new ≡ answers.old)) }
+        ensures refused { OnErr result
+            ((self.new ≡ self.old) × (estimator.new ≡ estimator.old) × (answers.new ≡ answers.old)) }
         ensures rest { drop (length calls.now) answers.new ≡ drop (length calls.now) answers.old }
-        ensures kept { T (list_all leaves (take (length calls.now) answers.new)) → is_ok result ≡ true → (self.new ≡ self.old) × (estimator.new ≡ estimator.old) }
-        ensures law { OnOk result ((s : Setting) (rest : Beyond) (h : History) → Follows s rest h self.old (E.Estimator.meaning estimator.old) (E.Weather.under estimator.old) → Law s rest h calls.now answers.new self.new (E.Estimator.meaning estimator.new) (E.Weather.under estimator.new)) }
+
+        // Questions and refused calls leave book and estimator as they were.
+        ensures kept { T (list_all changes_nothing (take (length calls.now) answers.new)) → is_ok result ≡ true
+            → (self.new ≡ self.old) × (estimator.new ≡ estimator.old) }
+        ensures law { OnOk result
+            (InEveryCase self.old (meanings_of (E.meaning estimator.old) (E.under estimator.old))
+            (λ c. Law c calls.now answers.new self.new
+            (meanings_of (E.meaning estimator.new) (E.under estimator.new)))) }
     {
         if answers.len() < calls.len() {
             return Err(Refusal::ListTooShort);
         }
-        // By place: nothing is known of a slice's values once `iter_mut` has gone over it in a `zip`.
         for (i, call) in calls.iter().enumerate() {
             answers[i] = self.serve_one(estimator, *call);
         }
         Ok(())
     }
 
-    // Opens a book and serves calls on it.
+    /// Opens a book and serves calls on it. Where the opening is refused, as by `open`, lists, estimator and
+    /// answers are as they were.
     pub fn open_and_serve<E: Weather>(
         request: OpeningRequest,
         lists: Lists,
@@ -96,12 +121,24 @@ impl Book {
         calls: &[Call],
         answers: &mut [Result<Answer, Refusal>],
     ) -> Result<Served, Unopened<Lists>>
-        ensures opened { Opens request lists result }
-        ensures refused { IfErr result (λ e. (e.lists ≡ lists) × (estimator.new ≡ estimator.old) × (answers.new ≡ answers.old)) }
-        ensures served { IfOk result (λ served. AcceptedWhen served.outcome (nat_le (length calls.now) (length answers.old)) 15) }
-        ensures unserved { IfOk result (λ served. is_ok served.outcome ≡ false → (estimator.new ≡ estimator.old) × (answers.new ≡ answers.old) × Follows (setting request lists (E.Estimator.meaning estimator.old) (E.Weather.under estimator.old)) (rest_of request lists) [] served.book (E.Estimator.meaning estimator.old) (E.Weather.under estimator.old)) }
+        ensures opened { OpensByRules request lists result }
+        ensures refused { IfErr result
+            (λ e. (e.lists ≡ lists) × (estimator.new ≡ estimator.old) × (answers.new ≡ answers.old)) }
+        ensures served { IfOk result
+            (λ served. AcceptedWhen served.outcome (nat_le (length calls.now) (length answers.old)) 15) }
+        ensures unserved { IfOk result
+            (λ served. is_ok served.outcome ≡ false
+            → (estimator.new ≡ estimator.old) × (answers.new ≡ answers.old)
+            × IsBookOf
+            (opening_case request lists (meanings_of (E.meaning estimator.old) (E.under estimator.old)))
+            served.book (meanings_of (E.meaning estimator.old) (E.under estimator.old))) }
         ensures rest { OnOk result (drop (length calls.now) answers.new ≡ drop (length calls.now) answers.old) }
-        ensures law { IfOk result (λ served. is_ok served.outcome ≡ true → Law (setting request lists (E.Estimator.meaning estimator.old) (E.Weather.under estimator.old)) (rest_of request lists) [] calls.now answers.new served.book (E.Estimator.meaning estimator.new) (E.Weather.under estimator.new)) }
+        ensures law { IfOk result
+            (λ served. is_ok served.outcome ≡ true
+            → Law
+            (opening_case request lists (meanings_of (E.meaning estimator.old) (E.under estimator.old)))
+            calls.now answers.new served.book
+            (meanings_of (E.meaning estimator.new) (E.under estimator.new))) }
     {
         let mut book = Book::open(request, lists)?;
         let outcome = book.serve(estimator, calls, answers);

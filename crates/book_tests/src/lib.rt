@@ -1,8 +1,6 @@
-// Tests of the book: it is proved in its own crate, and only run here.
+//! Tests of the book: it is proved in its own crate, and only run here.
 #![tactic(auto)]
 
-#[cfg(test)]
-mod at_random;
 #[cfg(test)]
 mod beside_plain_estimators;
 #[cfg(test)]
@@ -12,7 +10,9 @@ mod opened_and_served;
 #[cfg(test)]
 mod plain_estimators;
 #[cfg(test)]
-mod recomputed;
+mod random_calls;
+#[cfg(test)]
+mod recomputation;
 #[cfg(test)]
 mod refused_calls;
 #[cfg(test)]

@@ -46,7 +46,8 @@ impl Weather for Silent {
 }
 
 impl Estimator for Greatest {
-    ghost meaning = { λ _ point day. (if point_within point && day_within day then Option.Some greatest_figure else Option.None) };
+    ghost meaning = { λ _ point day.
+        (if point_within point && day_within day then Option.Some greatest_figure else Option.None) };
 
     ghost bounded = { λ _ point day. greatest_bounded (point_within point && day_within day) };
 
@@ -62,7 +63,8 @@ impl Estimator for Greatest {
 }
 
 impl Weather for Greatest {
-    ghost under = { λ _ count point day. (if point_within point && weather_within day count then Option.Some greatest_figure else Option.None) };
+    ghost under = { λ _ count point day.
+        (if point_within point && weather_within day count then Option.Some greatest_figure else Option.None) };
 
     ghost bounded_under = { λ _ count point day. greatest_bounded (point_within point && weather_within day count) };
 

@@ -8,8 +8,8 @@ use book::Answer;
 use std::test::Fail;
 use terms::Refusal;
 
-// Numbers beyond their limits, dates that do not exist, and dates outside a book of three days and two points. The first
-// reason answers where there are several.
+// Numbers beyond their limits, dates that do not exist, and dates outside a book of three days and two points.
+// The first reason answers where there are several.
 #[test]
 fn limits_and_dates(rt: HostRuntime) -> Result<(), Fail> {
     let mut book = opened(rt.alloc(), from_july(3, 2), 1)?;

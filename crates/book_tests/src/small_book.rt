@@ -24,12 +24,12 @@ fn weather() -> Result<ByWeather, Fail> {
     Ok(weather)
 }
 
-// The book once it was told all.
-fn told(rt: &(impl Abort + AllocGlobal), weather: &mut ByWeather) -> Result<Book, Fail> {
+// The book once it has served all entries.
+fn served_book(rt: &(impl Abort + AllocGlobal), weather: &mut ByWeather) -> Result<Book, Fail> {
     let mut book = opened(rt.alloc(), from_july(2, 2), 4)?;
     serve_table(
         rt,
-        "told",
+        "entries",
         &mut book,
         weather,
         &[
@@ -49,7 +49,7 @@ fn told(rt: &(impl Abort + AllocGlobal), weather: &mut ByWeather) -> Result<Book
 #[test]
 fn figures_of_the_small_book(rt: HostRuntime) -> Result<(), Fail> {
     let mut weather = weather()?;
-    let mut book = told(&rt, &mut weather)?;
+    let mut book = served_book(&rt, &mut weather)?;
     serve_table(
         &rt,
         "figures",
@@ -73,7 +73,7 @@ fn figures_of_the_small_book(rt: HostRuntime) -> Result<(), Fail> {
 #[test]
 fn lists_of_the_small_book(rt: HostRuntime) -> Result<(), Fail> {
     let mut weather = weather()?;
-    let mut book = told(&rt, &mut weather)?;
+    let mut book = served_book(&rt, &mut weather)?;
     begins(&rt, "sheet", book.sheet(), &[50, 30, 150, 30]);
     begins(&rt, "intervals", book.intervals(), &[0; 64]);
     serve_table(
@@ -114,8 +114,8 @@ fn lists_of_the_small_book(rt: HostRuntime) -> Result<(), Fail> {
     Ok(())
 }
 
-// Opens a book with lists of these lengths, full of sevens and with a reading in every place. Answers why it was refused,
-// and whether the lists came back as they were.
+// Opens a book with lists of these lengths, full of sevens and with a reading in every place. Answers why it
+// was refused, and whether the lists came back as they were.
 fn refused_opening(
     rt: &(impl Abort + AllocGlobal),
     request: OpeningRequest,
@@ -189,7 +189,7 @@ fn refused_openings(rt: HostRuntime) -> Result<(), Fail> {
 #[test]
 fn too_few_answers(rt: HostRuntime) -> Result<(), Fail> {
     let mut weather = weather()?;
-    let mut book = told(&rt, &mut weather)?;
+    let mut book = served_book(&rt, &mut weather)?;
     let mut answers = [Ok(Answer::Figure(1)), Ok(Answer::Figure(2))];
     let calls = [
         gate(20240701, 900, 0),

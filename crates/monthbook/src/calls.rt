@@ -133,7 +133,8 @@ const LATE_INTERVALS: [Call; 5] = [
     },
 ];
 
-// The reading of point 2 once more, and an actual reading of point 1 over the days of its estimate, which cannot come back.
+// The reading of point 2 once more, and an actual reading of point 1 over the days of its estimate, which
+// cannot come back.
 const REPLACED: [Call; 5] = [
     Call::EnterReading(Delivery {
         point: 2,
@@ -246,7 +247,7 @@ fn enter_gates(calls: &mut Vec<Call>, first: u32, gates: &[(u64, u64)]) -> Resul
 }
 
 // What the book is told, with a few questions on the way.
-pub(crate) fn told(heap: Global) -> Result<Vec<Call>, AllocError> {
+pub(crate) fn july_calls(heap: Global) -> Result<Vec<Call>, AllocError> {
     let mut calls = Vec::new(heap);
     calls.extend_from_slice(&ENROLMENTS)?;
     enter_counts(&mut calls)?;

@@ -1,4 +1,5 @@
 ghost use Rattle.std.specs.Prelude.{◌≡◌, length, IfOk, vec_len};
+ghost use Rattle.book.specs.Book.{lists_of};
 
 use book::{Answer, Book, Lists, OpeningRequest};
 use estimates::{ByWeather, Factors};
@@ -90,7 +91,7 @@ impl Month {
 
     // The figures, day by day and by point.
     pub(crate) fn sheet(&self) -> &[u64]
-        ensures { result.now ≡ self.now.book.sheet.figures.items }
+        ensures { result.now ≡ (lists_of self.now.book).sheet.items }
     {
         self.book.sheet()
     }

@@ -1,7 +1,7 @@
 // The three lists that the program prints.
 use super::calls::{NORTHERN, QUESTIONS, SOUTHERN};
+use super::display::{AnswerShown, CallShown, DateShown};
 use super::month::{DAYS, FIRST, LAST, POINTS};
-use super::shown::{AnswerShown, CallShown, DateShown};
 use book::Answer;
 use rules::Call;
 use sheet::DayFigures;

@@ -71,7 +71,8 @@ impl Month {
         Ok(Month { book, estimator })
     }
 
-    // Tells the book what has come in. A call that it refuses is the answer, and those after it are served all the same.
+    // Tells the book what has come in. A call that it refuses is the answer, and those after it are served all
+    // the same.
     pub(crate) fn tell(&mut self, heap: Global, calls: &[Call]) -> anyhow::Result<()> {
         let mut answers = vec![in heap; Ok(Answer::Accepted); calls.len()]?;
         self.book

@@ -1,7 +1,7 @@
 // The stages as tables, in megajoules. Retailers without a point have no row.
 use super::calls::{NORTHERN, SMALL, SOUTHERN};
-use super::settled::Settled;
-use statements::{RETAILERS, SUMS, Span};
+use super::settlement::Settlement;
+use statements::{LATER_PLACES, RETAILERS, SUMS, Span};
 use std::{fmt, io};
 
 // A row of a statement.
@@ -51,7 +51,7 @@ impl fmt::Display for DateShown {
     }
 }
 
-// The span that is settled.
+// The span that is settlement.
 pub(crate) fn print_span(rt: &HostRuntime, span: Span) -> io::Result<()> {
     let first = DateShown(span.first);
     let last = DateShown(span.last);
@@ -69,7 +69,11 @@ pub(crate) fn print_first(rt: &HostRuntime, sums: &[i64]) -> io::Result<()> {
 }
 
 // The adjustments of a later stage, and its sums.
-pub(crate) fn print_later(rt: &HostRuntime, name: &str, list: &[i64; 2 * SUMS]) -> io::Result<()> {
+pub(crate) fn print_later(
+    rt: &HostRuntime,
+    name: &str,
+    list: &[i64; LATER_PLACES],
+) -> io::Result<()> {
     println!(rt; "")?;
     println!(rt; "{name:<14}  adjustment         sum")?;
     for row in ROWS {
@@ -83,16 +87,16 @@ pub(crate) fn print_later(rt: &HostRuntime, name: &str, list: &[i64; 2 * SUMS]) 
 }
 
 // The adjustments of all stages together, beside what the last stage has more than the first.
-pub(crate) fn print_together(rt: &HostRuntime, settled: &Settled) -> io::Result<()> {
+pub(crate) fn print_together(rt: &HostRuntime, settlement: &Settlement) -> io::Result<()> {
     println!(rt; "")?;
     println!(rt; "all stages      adjustment  last less first")?;
     for row in ROWS {
         let adjusted = row
-            .of(&settled.last[..SUMS])
-            .saturating_add(row.of(&settled.revised[..SUMS]));
+            .of(&settlement.last[..SUMS])
+            .saturating_add(row.of(&settlement.revised[..SUMS]));
         let gained = row
-            .of(&settled.revised[SUMS..])
-            .saturating_sub(row.of(&settled.preliminary));
+            .of(&settlement.revised[SUMS..])
+            .saturating_sub(row.of(&settlement.preliminary));
         println!(rt; "{row} {adjusted:>11} {gained:>16}")?;
     }
     Ok(())

@@ -1,8 +1,8 @@
-pub mod Adjusting
-pub mod Asking
-pub mod Balanced
-pub mod Judges
-pub mod Limited
-pub mod Loaded
-pub mod Spanned
-pub mod Summed
+pub mod Adjustments
+pub mod Balance
+pub mod DayAnswers
+pub mod DayLoads
+pub mod DrawRefusals
+pub mod SpanLaws
+pub mod SpanSums
+pub mod SumLimits

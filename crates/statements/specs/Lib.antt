@@ -1,6 +1,4 @@
-pub mod Asked
 pub mod Draws
-pub mod Judged
 pub mod Laws
 pub mod Limits
 pub mod Lists

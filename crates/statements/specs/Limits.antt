@@ -1,6 +1,14 @@
--- How large a sum can become.
+-- How large a sum can become, and how many numbers a stage writes.
 use Rattle.std.specs.Prelude.{ℕ}
 
 -- the most that a sum is counted to: 2 to the power of 63, less 1
 abbrev pub largest_sum : ℕ
 largest_sum = 9223372036854775807
+
+-- the sums of a statement: each retailer's, and the host remainder's
+abbrev pub sum_count : ℕ
+sum_count = 17
+
+-- the numbers that a later stage writes: an adjustment of each sum, and then the sums
+abbrev pub later_places : ℕ
+later_places = 34

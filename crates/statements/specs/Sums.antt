@@ -1,12 +1,12 @@
 -- The sums of a statement.
-use Rattle.std.specs.Prelude.{◌≡◌, ℕ, ◌-◌, ◌≤◌, cond, map, sum, nat_lt, slice_index}
+use Rattle.std.specs.Prelude.{◌≡◌, ℕ, ◌-◌, ◌≤◌, map, sum, nat_lt, slice_index, if◌then◌else◌}
 use Rattle.std.specs.List.{range_with_len}
 use Rattle.std.specs.Option.{unwrap_or}
 use Rattle.rules.specs.Calls.{retailers}
 use Rattle.rules.specs.Figures.{excess, load, remainder, retailer_sum}
 use Rattle.rules.specs.History.{History, Setting}
 use Rattle.statements.specs.Spans.{sum_over_span}
-use Rattle.statements.specs.declared.span.Span.{Span}
+use Rattle.statements.specs.declared.statement.Span.{Span}
 use Rattle.statements.specs.declared.sums.Sums.{Sums}
 
 -- what the figures of a retailer's points come to over a span
@@ -17,7 +17,8 @@ retailer_over s h k span = sum_over_span s (retailer_sum s h k) span
 abbrev pub remainder_on : Setting → History → ℕ → ℕ
 remainder_on s h d = remainder s h d (unwrap_or (load s h d) 0)
 
--- what is left to the host retailer over a span: the remainders of its days added up, none of which an excess of another day lowers
+-- what is left to the host retailer over a span: the remainders of its days added up, none of which an excess
+-- of another day lowers
 abbrev pub remainder_over : Setting → History → Span → ℕ
 remainder_over s h span = sum_over_span s (remainder_on s h) span
 
@@ -37,6 +38,6 @@ pub record SumsOf (s : Setting) (h : History) (span : Span) (x : Sums) : Type 0 
   pub retailers : (k : ℕ) → 1 ≤ k → k ≤ retailers → slice_index x.retailers (k - 1) ≡ retailer_over s h k span
   pub remainder : x.remainder ≡ remainder_over s h span
 
--- the sum at each of 17 places: retailer k's at place k - 1, and the host remainder's at place 16
+-- the sum at each place: retailer k's at place k - 1, and the host remainder's at place 16
 abbrev pub sum_at : Sums → ℕ → ℕ
-sum_at x place = cond (nat_lt place retailers) (slice_index x.retailers place) x.remainder
+sum_at x place = if nat_lt place retailers then slice_index x.retailers place else x.remainder

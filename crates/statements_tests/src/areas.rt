@@ -1,8 +1,8 @@
-// A book of four days and three points, told more and more, and the lists that stages are drawn into.
+// A book of four days and three points that is told more and more, and the lists that stages are drawn into.
 use book::{Answer, Book, Lists, OpeningRequest};
 use estimates::{ByWeather, Factors};
 use rules::{Call, Delivery};
-use statements::{SUMS, Span};
+use statements::{RETAILERS, SUMS, Span};
 use std::alloc::Global;
 use std::process::Abort;
 use std::test::Fail;
@@ -58,7 +58,7 @@ fn actual(point: u32, start: u32, end: u32, energy: i64) -> Call {
 }
 
 // All days but the last have loads: 100, 300 and 0.
-pub(crate) fn begun() -> [Call; 11] {
+pub(crate) fn first_calls() -> [Call; 11] {
     [
         enrol(1, 1),
         enrol(2, 16),
@@ -75,25 +75,25 @@ pub(crate) fn begun() -> [Call; 11] {
 }
 
 // The last day has its load.
-pub(crate) fn complete() -> [Call; 1] {
+pub(crate) fn last_gate() -> [Call; 1] {
     [gate(LAST, 200)]
 }
 
 // A gate day is revised, and a reading arrives that takes the place of estimates.
-pub(crate) fn corrected() -> [Call; 2] {
+pub(crate) fn corrections() -> [Call; 2] {
     [gate(20240702, 500), actual(2, FIRST, 20240705, 40)]
 }
 
 // A reading supplies more on the last day than its load.
-pub(crate) fn exceeded() -> [Call; 1] {
+pub(crate) fn excess_reading() -> [Call; 1] {
     [actual(1, IDLE, 20240705, 300)]
 }
 
-// An area of so many days from the first date on, that was told some calls, each of which it accepted.
-pub(crate) fn area_told(
+// An area of so many days from the first date on that has served lists of calls, each of which it accepted.
+pub(crate) fn area_with(
     rt: &(impl Abort + AllocGlobal),
     days: u32,
-    told: &[&[Call]],
+    lists: &[&[Call]],
 ) -> Result<Area, Fail> {
     let heap = rt.alloc();
     let mut weather = ByWeather::new();
@@ -105,7 +105,7 @@ pub(crate) fn area_told(
         },
     )?;
     let mut book = opened(heap, days)?;
-    for calls in told {
+    for calls in lists {
         let mut answers = vec![in heap; Ok(Answer::Accepted); calls.len()]?;
         book.serve(&mut weather, calls, answers.as_mut_slice())?;
         for answer in answers.iter() {
@@ -134,8 +134,8 @@ fn opened(heap: Global, days: u32) -> Result<Book, Fail> {
 pub(crate) fn places(first: i64, last: i64, remainder: i64) -> [i64; SUMS] {
     let mut numbers = [0; SUMS];
     numbers[0] = first;
-    numbers[15] = last;
-    numbers[16] = remainder;
+    numbers[RETAILERS - 1] = last;
+    numbers[RETAILERS] = remainder;
     numbers
 }
 

@@ -1,9 +1,9 @@
-// Tests of the statements: they are proved in their own crate, and only run here.
+//! Tests of the statements: they are proved in their own crate, and only run here.
 #![tactic(auto)]
 
 #[cfg(test)]
 mod areas;
 #[cfg(test)]
-mod refused;
+mod refusals;
 #[cfg(test)]
 mod stages;

@@ -1,15 +1,19 @@
 // A span from its preliminary to its second revision.
 use super::areas::{
-    Area, FIRST, IDLE, LAST, WHOLE_BOOK, area_told, begins, begun, complete, corrected, exceeded,
-    places,
+    Area, FIRST, IDLE, LAST, WHOLE_BOOK, area_with, begins, corrections, excess_reading,
+    first_calls, last_gate, places,
 };
-use statements::{Final, Preliminary, Revised, Span, Statement, Undrawn};
+use statements::{Final, Preliminary, Revised, SUMS, Span, Stage, Statement, Undrawn};
 use std::process::Abort;
 use std::test::Fail;
 
 // The next stage, or the reason why there is none; then the settlement ends.
 
-fn finalised(stage: Preliminary, area: &Area, list: &mut [i64]) -> Result<Final, Fail> {
+fn finalised(
+    stage: Stage<Preliminary>,
+    area: &Area,
+    list: &mut [i64],
+) -> Result<Stage<Final>, Fail> {
     match stage.draw_final(&area.book, &area.weather, list) {
         Ok(next) => Ok(next),
         Err(Undrawn { refusal, stage }) => {
@@ -19,7 +23,11 @@ fn finalised(stage: Preliminary, area: &Area, list: &mut [i64]) -> Result<Final,
     }
 }
 
-fn first_revised(stage: Final, area: &Area, list: &mut [i64]) -> Result<Revised, Fail> {
+fn first_revised(
+    stage: Stage<Final>,
+    area: &Area,
+    list: &mut [i64],
+) -> Result<Stage<Revised>, Fail> {
     match stage.draw_revision(&area.book, &area.weather, list) {
         Ok(next) => Ok(next),
         Err(Undrawn { refusal, stage }) => {
@@ -29,7 +37,7 @@ fn first_revised(stage: Final, area: &Area, list: &mut [i64]) -> Result<Revised,
     }
 }
 
-fn revised(stage: Revised, area: &Area, list: &mut [i64]) -> Result<Revised, Fail> {
+fn revised(stage: Stage<Revised>, area: &Area, list: &mut [i64]) -> Result<Stage<Revised>, Fail> {
     match stage.draw_revision(&area.book, &area.weather, list) {
         Ok(next) => Ok(next),
         Err(Undrawn { refusal, stage }) => {
@@ -39,13 +47,23 @@ fn revised(stage: Revised, area: &Area, list: &mut [i64]) -> Result<Revised, Fai
     }
 }
 
-// Up and down: the reading of point 2 lowers what retailer 16 is charged by 50, the revised gate day raises the remainder. The
-// second revision charges retailer 1 more, and the excess of the last day lowers no other day's remainder.
+// Up and down: the reading of point 2 lowers what retailer 16 is charged by 50, the revised gate day raises the
+// remainder. The second revision charges retailer 1 more, and the excess of the last day lowers no other day's
+// remainder.
 #[test]
 fn adjustments_up_and_down(rt: HostRuntime) -> Result<(), Fail> {
-    let at_first = area_told(&rt, 4, &[&begun(), &complete()])?;
-    let then = area_told(&rt, 4, &[&begun(), &complete(), &corrected()])?;
-    let at_last = area_told(&rt, 4, &[&begun(), &complete(), &corrected(), &exceeded()])?;
+    let at_first = area_with(&rt, 4, &[&first_calls(), &last_gate()])?;
+    let then = area_with(&rt, 4, &[&first_calls(), &last_gate(), &corrections()])?;
+    let at_last = area_with(
+        &rt,
+        4,
+        &[
+            &first_calls(),
+            &last_gate(),
+            &corrections(),
+            &excess_reading(),
+        ],
+    )?;
     let sums = [
         places(200, 90, 310),
         places(200, 40, 561),
@@ -53,7 +71,7 @@ fn adjustments_up_and_down(rt: HostRuntime) -> Result<(), Fail> {
     ];
     let mut list = [7; 40];
 
-    let stage = Preliminary::draw(&at_first.book, &at_first.weather, WHOLE_BOOK, &mut list)?;
+    let stage = Stage::draw(&at_first.book, &at_first.weather, WHOLE_BOOK, &mut list)?;
     begins(&rt, "preliminary", &list, &[sums[0]]);
     let mut list = [7; 40];
     let stage = finalised(stage, &then, &mut list)?;
@@ -75,9 +93,9 @@ fn adjustments_up_and_down(rt: HostRuntime) -> Result<(), Fail> {
 }
 
 // The sums of a span, from a list with just enough places.
-fn sums_of(area: &Area, first: u32, last: u32) -> Result<[i64; 17], Fail> {
-    let mut list = [7; 17];
-    let stage = Preliminary::draw(&area.book, &area.weather, Span { first, last }, &mut list)?;
+fn sums_of(area: &Area, first: u32, last: u32) -> Result<[i64; SUMS], Fail> {
+    let mut list = [7; SUMS];
+    let stage = Stage::draw(&area.book, &area.weather, Span { first, last }, &mut list)?;
     stage.settle();
     Ok(list)
 }
@@ -85,7 +103,7 @@ fn sums_of(area: &Area, first: u32, last: u32) -> Result<[i64; 17], Fail> {
 // A span of one day, with its load and without gas, and spans over a day without gas.
 #[test]
 fn spans_of_few_days(rt: HostRuntime) -> Result<(), Fail> {
-    let area = area_told(&rt, 4, &[&begun(), &complete()])?;
+    let area = area_with(&rt, 4, &[&first_calls(), &last_gate()])?;
     let due = [
         (FIRST, FIRST, places(50, 30, 20)),
         (20240702, 20240702, places(150, 30, 120)),

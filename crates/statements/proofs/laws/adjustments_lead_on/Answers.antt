@@ -1,6 +1,6 @@
 use Rattle.std.proofs.Common.{◌+ℤ◌, drop, sym, ap, ◌∙◌}
 use Rattle.statements.specs.Lists.{adjustment_at, shown_at}
-use Rattle.statements.proofs.Adjusting.{add_up, in_first_row, in_next_row, leads_on, past_both}
+use Rattle.statements.proofs.Adjustments.{add_up, in_first_row, in_next_row, leads_on, past_both}
 use Rattle.statements.proofs.laws.adjustments_lead_on.Goals as goal
 
 pub returns : goal.returns

@@ -1,5 +1,5 @@
-use Rattle.statements.proofs.Spanned.{accepted_dates, accepted_days, accepted_last_day, draw_by_span}
-use Rattle.statements.proofs.Summed.{at_most, of_alike, of_none, of_one_more, of_parts}
+use Rattle.statements.proofs.SpanLaws.{accepted_dates, accepted_days, accepted_last_day, draw_by_span}
+use Rattle.statements.proofs.SpanSums.{at_most, of_alike, of_none, of_one_more, of_parts}
 use Rattle.statements.proofs.laws.spans_are_judged_and_summed.Goals as goal
 
 pub returns : goal.returns

@@ -1,4 +1,4 @@
-use Rattle.book.proofs.Loaded.{load_entry_moved}
+use Rattle.book.proofs.Loads.{load_entry_moved}
 use Rattle.book.proofs.book.Book.follow.Goals as goal
 
 pub returns-in-Enrolled-clause-law : goal.returns-in-Enrolled-clause-law

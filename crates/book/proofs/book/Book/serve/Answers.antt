@@ -13,12 +13,12 @@ loop-i-preserved g c =
           let now_kept = c.serve_one.ensures.kept left.1 in
           let kept = c.loop-i.invariant.kept left.0 in
           (now_kept.0 ∙ kept.0, now_kept.1 ∙ kept.1);
-      ran = λ s rest h f.
-          let ran = c.loop-i.invariant.ran s rest h f in
-          ran_more _ _ c.loop-i-test.true inside ran (c.serve_one.ensures.law s rest _ ran.follows);
+      ran = λ case f.
+          let ran = c.loop-i.invariant.ran case f in
+          ran_more _ _ c.loop-i-test.true inside ran (c.serve_one.ensures.law.law _ ran.follows);
     }
 
 pub returns-clause-law : goal.returns-clause-law
 returns-clause-law g c =
     let all : c.loop-i.i ≡ length c.args.calls.now = omega arith in
-    λ s rest h f. ran_all f.lawful all (c.loop-i.invariant.ran s rest h f)
+    λ case f. ran_all f.lawful all (c.loop-i.invariant.ran case f)

@@ -1,7 +1,7 @@
 use Rattle.std.proofs.Common.{◌++◌, take, drop, ap, ◌∙◌, rules}
 use Rattle.std.proofs.lemmas.Int.{ints}
 use Rattle.statements.specs.Lists.{adjustment_at, listed, shown_at}
-use Rattle.statements.proofs.Adjusting.{second_row}
+use Rattle.statements.proofs.Adjustments.{second_row}
 use Rattle.statements.proofs.sums.Sums.write_after.Goals as goal
 
 pub returns : goal.returns
