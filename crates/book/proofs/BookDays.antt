@@ -3,29 +3,29 @@ use Rattle.std.proofs.Common.{◌≡◌, ℕ, ◌+◌, ◌-◌, ◌<◌, ◌≤�
 use Rattle.std.proofs.lemmas.Bool.{and_from, and_left, and_parts, and_right, cond-true, false≢true, leb-true, le-ltb, lt-ltb, ltb-false, ltb-true, not-false}
 use Rattle.std.specs.Option.{option_map}
 use Rattle.calendar.specs.Digits.{day_number_of, is_date}
-use Rattle.rules.specs.Calls.{in_book, place}
 use Rattle.rules.specs.History.{History, Setting}
-use Rattle.ledger.specs.Days.{within_days}
-use Rattle.ledger.specs.Told.{Follows}
-use Rattle.ledger.specs.declared.state.Ledger.{Ledger}
-use Rattle.terms.specs.Numbers.{day_named, number_of}
+use Rattle.ledger.specs.declared.ledger.Ledger.{Ledger}
+use Rattle.terms.specs.Refusal.{number_of, date_named}
 use Rattle.terms.specs.declared.refusal.Refusal.{Refusal}
 use Rattle.terms.specs.declared.refusal.Refusal.TheVariants.{AskedDayWithoutLoad, CoveredDayWithoutLoad}
-use Rattle.sheet.specs.declared.day_figures.DayFigures.{DayFigures}
 use Rattle.book.specs.Days.{day_count, days_refusal}
+use Rattle.rules.specs.Calls.{is_in_book, day_of_date}
+use Rattle.ledger.specs.Opening.{has_day_number}
+use Rattle.ledger.specs.Ledger.{IsLedgerOf}
+use Rattle.sheet.specs.declared.account.Account.{Account}
 
 -- no refusal by a number up to 10 names a day
-pub none_named : (e : Refusal) → number_of e ≤ 10 → day_named e ≡ None
+pub none_named : (e : Refusal) → number_of e ≤ 10 → date_named e ≡ None
 none_named (CoveredDayWithoutLoad date) small = absurd (omega arith)
 none_named (AskedDayWithoutLoad date) small = absurd (omega arith)
 none_named e small = refl
 
 -- a day number is that of a day of the book where the date lies in it
-pub in_book_followed : {s : Setting} {h : History} {l : Ledger} (date number : ℕ) → Follows s h l → number ≡ day_number_of date → within_days l.opening 0 number ≡ in_book s 0 date
+pub in_book_followed : {s : Setting} {h : History} {l : Ledger} (date number : ℕ) → IsLedgerOf s h l → number ≡ day_number_of date → has_day_number l.opening 0 number ≡ is_in_book s 0 date
 in_book_followed date number f is = λ i. leb (f.first i) (is i) && ltb (is i) (f.first i + f.days i + 0)
 
 -- what it means to lie in the book
-pub inside : (s : Setting) (date : ℕ) → in_book s 0 date ≡ true → (s.first ≤ day_number_of date) × (day_number_of date < s.first + s.days)
+pub inside : (s : Setting) (date : ℕ) → is_in_book s 0 date ≡ true → (s.first ≤ day_number_of date) × (day_number_of date < s.first + s.days)
 inside s date is =
     let parts = and_parts (leb s.first (day_number_of date)) (ltb (day_number_of date) (s.first + s.days + 0)) is in
     let low : s.first ≤ day_number_of date = leb-true _ _ parts.0 in
@@ -42,18 +42,18 @@ module _ (s : Setting) (first last : ℕ) where
   last_unreal none = cond-true _ _ _ (ap not (and_right (is_date first) (is_date last) none))
 
   module _ (first_real : is_date first ≡ true) (last_real : is_date last ≡ true) where
-    by_days : (b : Bool) → (in_book s 0 first && in_book s 0 last) ≡ b
+    by_days : (b : Bool) → (is_in_book s 0 first && is_in_book s 0 last) ≡ b
         → days_refusal s first last ≡ cond (not b) (Some 5) (cond (ltb (day_number_of last) (day_number_of first)) (Some 10) None)
     unfolding days_refusal
     by_days b is = λ i. cond (not (first_real i && last_real i)) (Some 4) (cond (not (is i)) (Some 5) (cond (ltb (day_number_of last) (day_number_of first)) (Some 10) None))
 
-    pub first_outside : in_book s 0 first ≡ false → days_refusal s first last ≡ Some 5
+    pub first_outside : is_in_book s 0 first ≡ false → days_refusal s first last ≡ Some 5
     first_outside none = by_days false (and_left _ _ none)
 
-    pub last_outside : in_book s 0 last ≡ false → days_refusal s first last ≡ Some 5
+    pub last_outside : is_in_book s 0 last ≡ false → days_refusal s first last ≡ Some 5
     last_outside none = by_days false (and_right _ _ none)
 
-    module _ (first_inside : in_book s 0 first ≡ true) (last_inside : in_book s 0 last ≡ true) where
+    module _ (first_inside : is_in_book s 0 first ≡ true) (last_inside : is_in_book s 0 last ≡ true) where
       pub turned : day_number_of last < day_number_of first → days_refusal s first last ≡ Some 10
       turned before = by_days true (and_from _ _ first_inside last_inside) ∙ ap (λ b. cond b (Some 10) None) (lt-ltb _ _ before)
 
@@ -61,8 +61,8 @@ module _ (s : Setting) (first last : ℕ) where
       granted after = by_days true (and_from _ _ first_inside last_inside) ∙ ap (λ b. cond b (Some 10) None) (le-ltb (day_number_of last) (day_number_of first) after)
 
 -- the days of a span that nothing refuses
-pub their_days : (s : Setting) (first last : ℕ) → in_book s 0 first ≡ true → in_book s 0 last ≡ true → day_number_of first ≤ day_number_of last
-    → (day_number_of last - s.first - (day_number_of first - s.first) + 1 ≡ day_count first last) × (place s first + day_count first last ≤ s.days)
+pub their_days : (s : Setting) (first last : ℕ) → is_in_book s 0 first ≡ true → is_in_book s 0 last ≡ true → day_number_of first ≤ day_number_of last
+    → (day_number_of last - s.first - (day_number_of first - s.first) + 1 ≡ day_count first last) × (day_of_date s first + day_count first last ≤ s.days)
 their_days s first last first_inside last_inside after =
     let from = inside s first first_inside in
     let to = inside s last last_inside in
@@ -85,9 +85,9 @@ pub record AreAccepted (s : Setting) (first last : ℕ) : Type 0 where
 pub accepted_days : (s : Setting) (first last : ℕ) → days_refusal s first last ≡ None → AreAccepted s first last
 unfolding days_refusal
 accepted_days s first last none =
-    let passed = three_passed (not (is_date first && is_date last)) (not (in_book s 0 first && in_book s 0 last)) (ltb (day_number_of last) (day_number_of first)) none in
+    let passed = three_passed (not (is_date first && is_date last)) (not (is_in_book s 0 first && is_in_book s 0 last)) (ltb (day_number_of last) (day_number_of first)) none in
     let real = and_parts (is_date first) (is_date last) (not-false _ passed.0) in
-    let within = and_parts (in_book s 0 first) (in_book s 0 last) (not-false _ passed.1) in
+    let within = and_parts (is_in_book s 0 first) (is_in_book s 0 last) (not-false _ passed.1) in
     record {
       first_real = real.0;
       last_real = real.1;
@@ -104,11 +104,11 @@ pub a_day : (s : Setting) (day : ℕ) (o : Option ℕ) → day < s.days → cond
 a_day s day o within = ap (λ b. cond (not b) (Some 5) o) (lt-ltb day s.days within)
 
 -- the account of a day, and that it has none
-pub account_of_load : (f : ℕ → DayFigures) (o : Option ℕ) (x : DayFigures) → Some x ≡ option_map f o
+pub account_of_load : (f : ℕ → Account) (o : Option ℕ) (x : Account) → Some x ≡ option_map f o
     → (◌≡◌ {A = Option ℕ} (cond (not (is_some o)) (Some 14) None) None) × (x ≡ f (unwrap_or o 0))
 account_of_load f (Some n) x is = (refl, cc)
 account_of_load f None x is = absurd (false≢true (ap is_some (sym is)))
 
-pub no_account : (f : ℕ → DayFigures) (o : Option ℕ) → None ≡ option_map f o → ◌≡◌ {A = Option ℕ} (cond (not (is_some o)) (Some 14) None) (Some 14)
+pub no_account : (f : ℕ → Account) (o : Option ℕ) → None ≡ option_map f o → ◌≡◌ {A = Option ℕ} (cond (not (is_some o)) (Some 14) None) (Some 14)
 no_account f None is = refl
 no_account f (Some n) is = absurd (false≢true (ap is_some is))

@@ -3,7 +3,7 @@ use Rattle.std.proofs.Common.{◌≡◌, ℕ, ◌+◌, ◌<◌, Bool, true, fals
 use Rattle.std.proofs.lemmas.List.{take_all, take_more, take_more_set}
 use Rattle.std.specs.List.{list_all}
 use Rattle.estimators.proofs.Tables.{both, first, second}
-use Rattle.rules.specs.Calls.{Lawful, entry_of, refusal}
+use Rattle.rules.specs.Calls.{entry_of, refusal, IsLawful}
 use Rattle.rules.specs.History.{History, Setting}
 use Rattle.rules.specs.declared.call.Call.{Call}
 use Rattle.rules.specs.declared.entry.Entry.{Entry}
@@ -30,12 +30,12 @@ replies_push [] r = refl
 replies_push (x ∷ rs) r = ap (λ l. given_reply x ∷ l) (replies_push rs r)
 
 -- what is accepted stays lawful
-lawful_lengthened : (s : Setting) (h : History) (c : Call) (o : Option ℕ) (e : Option Entry) → refusal s h c ≡ o → entry_of s c ≡ e → Lawful s h → Lawful s (lengthened_history o e h)
+lawful_lengthened : (s : Setting) (h : History) (c : Call) (o : Option ℕ) (e : Option Entry) → refusal s h c ≡ o → entry_of s c ≡ e → IsLawful s h → IsLawful s (lengthened_history o e h)
 lawful_lengthened s h c (Some n) e refused is lawful = lawful
 lawful_lengthened s h c None None accepted is lawful = lawful
 lawful_lengthened s h c None (Some e) accepted is lawful = (lawful, (c, accepted, is))
 
-pub lawful_after : (s : Setting) (h : History) (cs : List Call) → Lawful s h → Lawful s (history_after_calls s h cs)
+pub lawful_after : (s : Setting) (h : History) (cs : List Call) → IsLawful s h → IsLawful s (history_after_calls s h cs)
 lawful_after s h [] lawful = lawful
 lawful_after s h (c ∷ cs) lawful = lawful_after s (history_after_call s h c) cs (lawful_lengthened s h c (refusal s h c) (entry_of s c) refl refl lawful)
 
@@ -63,7 +63,7 @@ ran_more {c} {cs} {rs} {i} d r {b} {b'} {m} {m'} in_cs in_rs old new =
     }
 
 -- when all calls are answered the law holds of the run
-pub ran_all : {c : Case} {cs : List Call} {rs : List (Result Answer Refusal)} {i : ℕ} {b : Book} {m : Meanings} → Lawful c.setting c.history → i ≡ length cs → Ran c cs rs i b m → Law c cs rs b m
+pub ran_all : {c : Case} {cs : List Call} {rs : List (Result Answer Refusal)} {i : ℕ} {b : Book} {m : Meanings} → IsLawful c.setting c.history → i ≡ length cs → Ran c cs rs i b m → Law c cs rs b m
 ran_all {c} {cs} {rs} {i} {b} {m} lawful e ran =
     let s = c.setting in
     let h = c.history in

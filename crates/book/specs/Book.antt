@@ -1,23 +1,22 @@
 -- A book kept in a case, and what its calls promise of every case.
 use Rattle.std.specs.Prelude.{◌≡◌, ℕ, Bool, true, false, List, ◌∷◌, OnErr, Result}
 use Rattle.estimators.specs.Meaning.{Meaning}
-use Rattle.rules.specs.Calls.{Lawful}
 use Rattle.rules.specs.History.{History, Setting}
 use Rattle.rules.specs.declared.call.Call.{Call}
 use Rattle.rules.specs.declared.call.Call.TheVariants.{EnterDegreeDays}
 use Rattle.rules.specs.declared.entry.Entry.{Entry}
-use Rattle.ledger.specs.Beyond.{beyond_days}
-use Rattle.ledger.specs.Told.{Answered, Follows}
-use Rattle.ledger.specs.declared.state.Ledger.{Ledger}
+use Rattle.ledger.specs.declared.ledger.Ledger.{Ledger}
 use Rattle.terms.specs.declared.refusal.Refusal.{Refusal}
-use Rattle.sheet.specs.Asking.{Limited}
-use Rattle.sheet.specs.Told.{Estimates, Stands}
-use Rattle.sheet.specs.declared.state.Sheet.{Sheet}
+use Rattle.sheet.specs.declared.sheet.Sheet.{Sheet}
 use Rattle.book.specs.Case.{Case, case_after_call}
 use Rattle.book.specs.Meanings.{Meanings}
 use Rattle.book.specs.Replies.{Reply, due_reply, entry_reply, reply_of}
 use Rattle.book.specs.declared.book.Book.{Book}
 use Rattle.book.specs.declared.book.Lists.{Lists}
+use Rattle.rules.specs.Calls.{IsLawful}
+use Rattle.ledger.specs.Ledger.{beyond_days, EntersByLaw, IsLedgerOf}
+use Rattle.sheet.specs.Account.{HasBoundedEstimates}
+use Rattle.sheet.specs.SheetOfHistory.{MeansEstimates, IsSheetOf}
 
 -- the three lists in whose memory a book is kept
 abbrev pub lists_of : Book → Lists
@@ -26,17 +25,17 @@ lists_of b = record { sheet = b.sheet.figures; intervals = b.ledger.intervals; r
 -- a book is kept in a case, beside an estimator
 pub record IsBookOf (c : Case) (b : Book) (m : Meanings) : Type 0 where
   -- every entry of the history was accepted after those before it
-  pub lawful : Lawful c.setting c.history
+  pub lawful : IsLawful c.setting c.history
   -- every figure of the estimator, at the opening and under each count, is within its limit
-  pub limited : Limited c.setting
+  pub limited : HasBoundedEstimates c.setting
   -- gates, interval energies, enrolments and held readings lie where they should, each held reading in one place
-  pub entries : Follows c.setting c.history b.ledger
+  pub entries : IsLedgerOf c.setting c.history b.ledger
   -- the sheet shows every figure as the rules make it, and what lies beyond its places stays
-  pub figures : Stands c.setting c.rest.sheet c.history b.sheet
+  pub figures : IsSheetOf c.setting c.rest.sheet c.history b.sheet
   -- and so does what lies beyond the places of the interval list
   pub intervals : beyond_days b.ledger ≡ c.rest.intervals
   -- the estimator means the latest estimates, and under each count what it meant at the opening
-  pub estimates : Estimates c.setting c.history m.current
+  pub estimates : MeansEstimates c.setting c.history m.current
   pub weather : (count p d : ℕ) → m.under count p d ≡ c.setting.weather count p d
 
 -- P holds of every case that the book is kept in beside an estimator that means this
@@ -75,7 +74,7 @@ pub record LeavesBookIfRefused (r : Result Entry Refusal) (b b' : Book) : Type 0
 -- and an entry other than a degree-day count is answered as the ledger promises
 pub record ChangesLedgerOnly (call : Call) (r : Result Entry Refusal) (b b' : Book) : Type 0 where
   pub sheet : b'.sheet ≡ b.sheet
-  pub answered : Answered call b.ledger r b'.ledger
+  pub answered : EntersByLaw call b.ledger r b'.ledger
   pub beyond : beyond_days b'.ledger ≡ beyond_days b.ledger
   pub no_count : enters_count call ≡ false
 
@@ -83,4 +82,4 @@ pub record ChangesLedgerOnly (call : Call) (r : Result Entry Refusal) (b b' : Bo
 abbrev pub SheetTakes : Entry → Ledger → Meaning → Sheet → Sheet → Type 0
 SheetTakes e l m b b' =
     (s : Setting) (rest : List ℕ) (h : History)
-    → Lawful s (e ∷ h) → Follows s (e ∷ h) l → Estimates s (e ∷ h) m → Stands s rest h b → Stands s rest (e ∷ h) b'
+    → IsLawful s (e ∷ h) → IsLedgerOf s (e ∷ h) l → MeansEstimates s (e ∷ h) m → IsSheetOf s rest h b → IsSheetOf s rest (e ∷ h) b'

@@ -1,17 +1,18 @@
 -- When a book opens, and the case that it opens in.
 use Rattle.std.specs.Prelude.{◌≡◌, ℕ, ◌*◌, Bool, not, ◌&&◌, [], ◌∷◌, drop, Some, None, Ok, Err, vec_items, vec_len, Option, Result, nat_le}
 use Rattle.calendar.specs.Digits.{is_date}
-use Rattle.estimators.specs.Meaning.{Bounded, BoundedUnder}
-use Rattle.ledger.specs.Opened.{beyond, setting_of}
-use Rattle.ledger.specs.declared.open.Unopened.{Unopened}
+use Rattle.ledger.specs.declared.opening.Unopened.{Unopened}
 use Rattle.ledger.specs.declared.opening.OpeningRequest.{OpeningRequest}
-use Rattle.rules.specs.Calls.{first_holding, meters}
-use Rattle.terms.specs.Numbers.{number_of}
+use Rattle.terms.specs.Refusal.{number_of}
 use Rattle.book.specs.Book.{IsBookOf}
 use Rattle.book.specs.Case.{Beyond, Case}
 use Rattle.book.specs.Meanings.{Meanings}
 use Rattle.book.specs.declared.book.Book.{Book}
 use Rattle.book.specs.declared.book.Lists.{Lists}
+use Rattle.allocation.specs.Loads.{meters}
+use Rattle.estimators.specs.Meaning.{IsBounded, IsBoundedUnder}
+use Rattle.rules.specs.Calls.{first_refusal}
+use Rattle.ledger.specs.Opening.{is_opening_beyond_limits, setting_of}
 
 -- 15: the sheet list has fewer places than days times points, the interval list fewer than 32 a day, or the
 -- reading list none
@@ -24,8 +25,8 @@ are_book_lists_short q lists =
 -- the refusal of an opening, by its number; none where it is accepted
 abbrev pub book_opening_refusal : OpeningRequest → Lists → Option ℕ
 book_opening_refusal q lists =
-    first_holding
-    (record { number = 3; holds = beyond q }
+    first_refusal
+    (record { number = 3; holds = is_opening_beyond_limits q }
     ∷ record { number = 4; holds = not (is_date q.first_date) }
     ∷ record { number = 15; holds = are_book_lists_short q lists } ∷ [])
 
@@ -49,7 +50,7 @@ opening_case q lists m = record {
 abbrev pub OpensBook : OpeningRequest → Lists → Result Book (Unopened Lists) → Type 0
 OpensBook q lists (Ok b) =
     (book_opening_refusal q lists ≡ None)
-    × ((m : Meanings) → Bounded m.current → BoundedUnder m.under → IsBookOf (opening_case q lists m) b m)
+    × ((m : Meanings) → IsBounded m.current → IsBoundedUnder m.under → IsBookOf (opening_case q lists m) b m)
 OpensBook q lists (Err e) = book_opening_refusal q lists ≡ Some (number_of e.refusal)
 
 -- an opening is accepted or refused by these

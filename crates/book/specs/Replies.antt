@@ -1,31 +1,31 @@
 -- What a call is answered, and the history that it leaves.
 use Rattle.std.specs.Prelude.{◌≡◌, ℕ, Bool, true, false, List, [], ◌∷◌, Some, None, Ok, Err, Option, Result}
 use Rattle.std.specs.Option.{unwrap_or}
-use Rattle.rules.specs.Calls.{entry_of, named_by, place, refusal}
+use Rattle.rules.specs.Calls.{entry_of, refusal, named_date, day_of_date}
 use Rattle.rules.specs.Figures.{figure, load, retailer_sum}
 use Rattle.rules.specs.History.{History, Setting}
 use Rattle.rules.specs.declared.call.Call.{Call}
 use Rattle.rules.specs.declared.call.Call.TheVariants.{AskFigure, AskDay, AskRetailer}
 use Rattle.rules.specs.declared.entry.Entry.{Entry}
-use Rattle.terms.specs.Numbers.{number_of, day_named}
+use Rattle.terms.specs.Refusal.{number_of, date_named}
 use Rattle.terms.specs.declared.refusal.Refusal.{Refusal}
-use Rattle.sheet.specs.Asking.{account}
-use Rattle.sheet.specs.declared.day_figures.DayFigures.{DayFigures}
 use Rattle.book.specs.declared.serve.Answer.{Answer}
 use Rattle.book.specs.declared.serve.Answer.TheVariants.{Accepted, Figure, Day, RetailerSum}
+use Rattle.sheet.specs.Account.{account}
+use Rattle.sheet.specs.declared.account.Account.{Account}
 
 -- what a call can be answered, in the rules' words: a refusal by its number, with the date of the day that it names
 pub data Reply : Type 0 where
   accepted : Reply
   figure_is : ℕ → Reply
-  day_is : DayFigures → Reply
+  day_is : Account → Reply
   sum_is : ℕ → Reply
   refused : ℕ → Option ℕ → Reply
 
 -- what a result says in the rules' words, given what its value says
 abbrev pub reply_of : {X : Type 0} → (X → Reply) → Result X Refusal → Reply
 reply_of value_reply (Ok x) = value_reply x
-reply_of value_reply (Err e) = refused (number_of e) (day_named e)
+reply_of value_reply (Err e) = refused (number_of e) (date_named e)
 
 -- what the value of an entry says, and that of any call
 abbrev pub entry_reply : Unit {0} → Reply
@@ -48,9 +48,9 @@ changes_nothing r = true
 
 -- what a call that is not refused is answered
 abbrev pub granted_reply : Setting → History → Call → Reply
-granted_reply s h (AskFigure point date) = figure_is (figure s h point (place s date))
-granted_reply s h (AskDay date) = day_is (account s h (place s date) (unwrap_or (load s h (place s date)) 0))
-granted_reply s h (AskRetailer retailer date) = sum_is (retailer_sum s h retailer (place s date))
+granted_reply s h (AskFigure point date) = figure_is (figure s h point (day_of_date s date))
+granted_reply s h (AskDay date) = day_is (account s h (day_of_date s date) (unwrap_or (load s h (day_of_date s date)) 0))
+granted_reply s h (AskRetailer retailer date) = sum_is (retailer_sum s h retailer (day_of_date s date))
 granted_reply s h call = accepted
 
 -- a refusal decides where there is one
@@ -61,7 +61,7 @@ unless_refused (Some n) named r = refused n (named n)
 -- the reply that is due to a call: the first refusal whose condition holds, with the day that it names, or what
 -- the rules grant
 abbrev pub due_reply : Setting → History → Call → Reply
-due_reply s h call = unless_refused (refusal s h call) (named_by s h call) (granted_reply s h call)
+due_reply s h call = unless_refused (refusal s h call) (named_date s h call) (granted_reply s h call)
 
 -- an accepted entry lengthens the history; a refused call and a question leave it
 abbrev pub lengthened_history : Option ℕ → Option Entry → History → History
@@ -85,4 +85,4 @@ history_after_calls s h (call ∷ calls) = history_after_calls s (history_after_
 -- by that number, with the day that is named under it
 abbrev pub IsJudgedBy : {X : Type 0} → Option ℕ → (ℕ → Option ℕ) → (X → Type 0) → Result X Refusal → Type 0
 IsJudgedBy refusal named P (Ok x) = (refusal ≡ None) × P x
-IsJudgedBy refusal named P (Err e) = (refusal ≡ Some (number_of e)) × (day_named e ≡ named (number_of e))
+IsJudgedBy refusal named P (Err e) = (refusal ≡ Some (number_of e)) × (date_named e ≡ named (number_of e))

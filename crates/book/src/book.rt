@@ -1,19 +1,19 @@
 ghost use Rattle.std.specs.Prelude.{◌≡◌, ℕ, ◌+◌, ◌-◌, ◌<◌, ◌≤◌, true, ◌∷◌, IfErr, MatchResult, OnErr, OnOk, Option};
-ghost use Rattle.calendar.specs.Digits.{date_numbered};
 ghost use Rattle.estimators.specs.Limits.{last_day};
-ghost use Rattle.estimators.specs.Meaning.{Entered, weather_within};
-ghost use Rattle.ledger.specs.Days.{within_days};
+ghost use Rattle.estimators.specs.Meaning.{weather_within, TakesCount};
 ghost use Rattle.rules.specs.declared.call.Call.{Call};
 ghost use Rattle.rules.specs.declared.call.Call.TheVariants.{AskDay, AskFigure, AskRetailer, Enrol, EnterDegreeDays, EnterGate, EnterInterval, EnterReading};
 ghost use Rattle.rules.specs.declared.entry.Entry.TheVariants.{DegreeDaysEntered};
 ghost use Rattle.terms.specs.Answers.{Answers};
-ghost use Rattle.terms.specs.Numbers.{number_of};
+ghost use Rattle.terms.specs.Refusal.{number_of};
+ghost use Rattle.calendar.specs.Digits.{date_of_day_number};
+ghost use Rattle.ledger.specs.Opening.{has_day_number};
 
 use calendar::{date_of_day_number, day_number_of};
 use estimators::{Estimator, Weather};
 use ledger::{Ledger, OpeningRequest, Unopened, judge_opening};
 use rules::{Delivery, Entry, Reading};
-use sheet::{DayFigures, Sheet, Sources};
+use sheet::{Account, Sheet, Sources};
 use terms::Refusal;
 
 /// The three lists in whose memory a book is kept. No call of a book allocates.
@@ -184,7 +184,7 @@ impl Book {
         ensures refused { OnErr result ((self.new ≡ self.old) × (estimator.new ≡ estimator.old)) }
         ensures ledger { self.new.ledger ≡ self.old.ledger }
         ensures weather { weather_within (day + 1) count ≡ true
-            → Entered (day + 1) count (E.meaning estimator.old) (E.meaning estimator.new)
+            → TakesCount (day + 1) count (E.meaning estimator.old) (E.meaning estimator.new)
             (E.under estimator.old) (E.under estimator.new) }
         ensures figures { OnOk result
             (SheetTakes (DegreeDaysEntered day count) self.old.ledger (E.meaning estimator.new)
@@ -302,7 +302,7 @@ impl Book {
     // The date of a day of the book.
     fn date_of(&self, day: u32) -> u32
         requires { day < self.now.ledger.opening.days }
-        ensures { result ≡ date_numbered (self.now.ledger.opening.first + day) }
+        ensures { result ≡ date_of_day_number (self.now.ledger.opening.first + day) }
     {
         date_of_day_number(self.ledger.opening().first + day).unwrap()
     }
@@ -310,7 +310,7 @@ impl Book {
     // The day of the book of a day number.
     fn day_of_number(&self, number: u32) -> Result<u32, Refusal>
         ensures { Answers result
-            (within_days self.now.ledger.opening 0 number)
+            (has_day_number self.now.ledger.opening 0 number)
             (number - self.now.ledger.opening.first) 5 }
     {
         let opening = self.ledger.opening();
@@ -344,7 +344,7 @@ impl Book {
     /// The account of a day, counted from 0, the book's first.
     ///
     /// Refusals: `OutsideBook` (5) where the book has no such day; `AskedDayWithoutLoad` (14).
-    pub fn day_account<E: Weather>(&self, estimator: &E, day: u32) -> Result<DayFigures, Refusal>
+    pub fn day_account<E: Weather>(&self, estimator: &E, day: u32) -> Result<Account, Refusal>
         ensures { TellsAccount day result self.now
             (meanings_of (E.meaning estimator.now) (E.under estimator.now)) }
     {
@@ -355,7 +355,7 @@ impl Book {
             ledger: &self.ledger,
             estimator,
         };
-        match self.sheet.day_figures(&sources, day) {
+        match self.sheet.day_account(&sources, day) {
             Some(figures) => Ok(figures),
             None => {
                 let date = self.date_of(day);
@@ -391,7 +391,7 @@ impl Book {
     /// The account of the day of a date.
     ///
     /// Refusals: `NoSuchDate` (4); `OutsideBook` (5); `AskedDayWithoutLoad` (14).
-    pub fn ask_day<E: Weather>(&self, estimator: &E, date: u32) -> Result<DayFigures, Refusal>
+    pub fn ask_day<E: Weather>(&self, estimator: &E, date: u32) -> Result<Account, Refusal>
         ensures { IsAnsweredByLaw (AskDay date) day_is result self.now
             (meanings_of (E.meaning estimator.now) (E.under estimator.now)) }
     {

@@ -1,17 +1,17 @@
 ghost use Rattle.std.specs.Prelude.{◌≡◌, true, false, T, length, take, drop, is_ok, IfOk, IfErr, OnErr, OnOk, nat_le};
 ghost use Rattle.std.specs.List.{list_all};
-ghost use Rattle.terms.specs.Answers.{AcceptedWhen};
 ghost use Rattle.book.specs.Book.{InEveryCase, IsBookOf, IsServedByLaw};
 ghost use Rattle.book.specs.Law.{Law};
 ghost use Rattle.book.specs.Meanings.{meanings_of};
 ghost use Rattle.book.specs.Opening.{OpensByRules, opening_case};
 ghost use Rattle.book.specs.Replies.{answer_reply, changes_nothing};
+ghost use Rattle.terms.specs.Answers.{IsAcceptedWhen};
 
 use super::book::{Book, Lists};
 use estimators::{Estimator, Weather};
 use ledger::{OpeningRequest, Unopened};
 use rules::Call;
-use sheet::DayFigures;
+use sheet::{Account};
 use terms::Refusal;
 
 /// What a call that is not refused is answered. Energies are in megajoules.
@@ -22,7 +22,7 @@ pub enum Answer {
     /// The figure of a point on a day.
     Figure(u64),
     /// The account of a day.
-    Day(DayFigures),
+    Day(Account),
     /// What the figures of a retailer's points come to on a day.
     RetailerSum(u64),
 }
@@ -90,7 +90,7 @@ impl Book {
         calls: &[Call],
         answers: &mut [Result<Answer, Refusal>],
     ) -> Result<(), Refusal>
-        ensures answer { AcceptedWhen result (nat_le (length calls.now) (length answers.old)) 15 }
+        ensures answer { IsAcceptedWhen result (nat_le (length calls.now) (length answers.old)) 15 }
         ensures refused { OnErr result
             ((self.new ≡ self.old) × (estimator.new ≡ estimator.old) × (answers.new ≡ answers.old)) }
         ensures rest { drop (length calls.now) answers.new ≡ drop (length calls.now) answers.old }
@@ -125,7 +125,7 @@ impl Book {
         ensures refused { IfErr result
             (λ e. (e.lists ≡ lists) × (estimator.new ≡ estimator.old) × (answers.new ≡ answers.old)) }
         ensures served { IfOk result
-            (λ served. AcceptedWhen served.outcome (nat_le (length calls.now) (length answers.old)) 15) }
+            (λ served. IsAcceptedWhen served.outcome (nat_le (length calls.now) (length answers.old)) 15) }
         ensures unserved { IfOk result
             (λ served. is_ok served.outcome ≡ false
             → (estimator.new ≡ estimator.old) × (answers.new ≡ answers.old)

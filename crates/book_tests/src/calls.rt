@@ -2,7 +2,7 @@
 use book::{Answer, Book, Lists, OpeningRequest};
 use estimators::Weather;
 use rules::{Call, Delivery};
-use sheet::DayFigures;
+use sheet::{Account};
 use std::alloc::Global;
 use std::process::Abort;
 use std::test::Fail;
@@ -86,7 +86,7 @@ pub(crate) fn refused(call: Call, refusal: Refusal) -> Case {
 // The answer about a day, by its load, supplied, generated, remainder, excess and missing.
 pub(crate) fn account(numbers: [u64; 6]) -> Answer {
     let [load, supplied, generated, remainder, excess, missing] = numbers;
-    Answer::Day(DayFigures {
+    Answer::Day(Account {
         load,
         supplied,
         generated,

@@ -1,12 +1,10 @@
 // The two plainest estimators that keep the laws of every estimator.
 ghost use Rattle.std.specs.Prelude.{◌&&◌, if◌then◌else◌, Option, refl};
-ghost use Rattle.estimators.specs.Limits.{day_within, greatest_figure, point_within};
+ghost use Rattle.estimators.specs.Limits.{greatest_figure, point_within, day_place_within};
 ghost use Rattle.estimators.specs.Meaning.{weather_within};
 ghost use Rattle.book_tests.specs.Laws.{none_bounded, greatest_bounded, greatest_ranged};
 
-use estimators::{
-    Estimator, GREATEST_FIGURE, Weather, count_within, day_within, judge_weather, point_within,
-};
+use estimators::{Estimator, GREATEST_FIGURE, Weather, count_within, day_place_within, judge_weather, point_within};
 use terms::Refusal;
 
 // Knows no figure at all.
@@ -47,14 +45,14 @@ impl Weather for Silent {
 
 impl Estimator for Greatest {
     ghost meaning = { λ _ point day.
-        (if point_within point && day_within day then Option.Some greatest_figure else Option.None) };
+        (if point_within point && day_place_within day then Option.Some greatest_figure else Option.None) };
 
-    ghost bounded = { λ _ point day. greatest_bounded (point_within point && day_within day) };
+    ghost bounded = { λ _ point day. greatest_bounded (point_within point && day_place_within day) };
 
-    ghost ranged = { λ _ point day. greatest_ranged (point_within point && day_within day) };
+    ghost ranged = { λ _ point day. greatest_ranged (point_within point && day_place_within day) };
 
     fn figure(&self, point: u32, day: u32) -> Option<u64> {
-        if point_within(point) && day_within(day) {
+        if point_within(point) && day_place_within(day) {
             Some(GREATEST_FIGURE)
         } else {
             None

@@ -9,7 +9,7 @@ use book::{Answer, Book, OpeningRequest};
 use estimates::{ByWeather, Factors};
 use estimators::Weather;
 use rules::Call;
-use sheet::DayFigures;
+use sheet::{Account};
 use std::alloc::{AllocError, Global};
 use std::process::Abort;
 use std::test::Fail;
@@ -306,7 +306,7 @@ fn take(area: &mut Area, step: Step) -> Result<(), AllocError> {
 // The answer about a day.
 fn account(worked: &Worked, date: u32) -> Result<Answer, Refusal> {
     let load = worked.load.ok_or(Refusal::AskedDayWithoutLoad { date })?;
-    Ok(Answer::Day(DayFigures {
+    Ok(Answer::Day(Account {
         load,
         supplied: worked.supplied,
         generated: worked.generated,

@@ -1,6 +1,6 @@
 -- The four terms of a day's degree days, and the count that they come to.
 use Rattle.std.specs.Prelude.{ℕ, ◌+◌, ◌≤◌, ℤ, pos, ◌+ℤ◌, ◌-ℤ◌, neg_ℤ, ◌≤ℤ◌}
-use Rattle.terms.specs.Nearest.{nearest}
+use Rattle.terms.specs.Rounding.{nearest}
 use Rattle.estimates.specs.Rounding.{or_zero}
 use Rattle.estimates.specs.declared.degree_day_terms.DegreeDayTerms.{DegreeDayTerms}
 

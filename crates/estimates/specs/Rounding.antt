@@ -1,6 +1,6 @@
 -- Whole numbers that may be negative, and quotients to the nearest.
 use Rattle.std.specs.Prelude.{ℕ, suc, ◌+◌, ◌-◌, ◌*◌, ◌/◌, ℤ, pos, negsuc, neg_ℤ}
-use Rattle.terms.specs.Nearest.{nearest}
+use Rattle.terms.specs.Rounding.{nearest}
 
 -- the number, or 0 if it is negative
 abbrev pub or_zero : ℤ → ℕ

@@ -2,13 +2,13 @@
 use Rattle.std.specs.Prelude.{ℕ, ◌≤◌, if◌then◌else◌, ◌&&◌, ◌||◌, ◌==◌, nat_le, nat_lt, Some, None, Option}
 use Rattle.std.proofs.Common.{arith}
 use Rattle.calendar.specs.Gregorian.{days_in_all}
-use Rattle.calendar.specs.Digits.{month_shown, date_numbered}
 use Rattle.estimates.specs.declared.season.Season.{Season}
 use Rattle.estimates.specs.declared.season.Season.TheVariants.{Cold, Between, Warm}
+use Rattle.calendar.specs.Digits.{month_of_date, date_of_day_number}
 
 -- the month of the date that has a day number; after 2099 there is none
 abbrev pub month_of_day_number : ℕ → Option ℕ
-month_of_day_number n = if nat_lt n days_in_all then Some (month_shown (date_numbered n)) else None
+month_of_day_number n = if nat_lt n days_in_all then Some (month_of_date (date_of_day_number n)) else None
 
 -- the season of a month: cold from August to October, between in June, July, November and December, else warm
 abbrev pub season_of : ℕ → Season

@@ -1,10 +1,9 @@
 -- The ledger of a history is, with the entry that it has taken, the ledger of the longer history. Assumes nothing.
 use Rattle.std.proofs.Common.{◌≡◌, ℕ, ◌+◌, ◌-◌, ◌*◌, ◌<◌, ◌≤◌, Bool, true, false, cond, not, ◌&&◌, eqb, ltb, leb, List, ◌∷◌, length, drop, Some, None, vec_items, count_by, filter, sym, ap, ◌∙◌, ⊎_elim, add_comm, arith, drop-set-lt}
 use Rattle.std.proofs.lemmas.Bool.{and_cases, and_from, and_parts, eqb-true, eqb-false, le-leb, leb-true, lt-ltb}
-use Rattle.rules.specs.Calls.{between, meters}
 use Rattle.rules.specs.History.{History, Setting, enrolment_of, gate_of, interval_in, latest}
 use Rattle.rules.specs.declared.entry.Entry.TheVariants.{DegreeDaysEntered, Enrolled, GateEntered, IntervalEntered, ReadingTaken}
-use Rattle.rules.specs.Readings.{held_of, replaces}
+use Rattle.rules.specs.Readings.{replaces, held_readings}
 use Rattle.rules.specs.declared.entry.Enrolment.{Enrolment}
 use Rattle.rules.specs.declared.entry.GateDay.{GateDay}
 use Rattle.rules.specs.declared.entry.Reading.{Reading}
@@ -12,6 +11,8 @@ use Rattle.ledger.specs.Ledger.{IsLedgerOf, WithEnrolment, WithGate, WithInterva
 use Rattle.ledger.proofs.PlaceCounts.{count_cons, count_kept}
 use Rattle.ledger.proofs.Tables.{or_other, or_value, put_read}
 use Rattle.ledger.specs.declared.ledger.Ledger.{Ledger}
+use Rattle.allocation.specs.Loads.{meters}
+use Rattle.rules.specs.Calls.{is_between}
 
 pub gate_followed : {s : Setting} {h : History} {day : ℕ} {gate : GateDay} {old new : Ledger}
     → WithGate day gate old new → day < old.opening.days → day < length old.gates
@@ -35,7 +36,7 @@ gate_followed {s} {h} {day} {gate} {old} {new} change within long f = record {
 -- the cell of a meter and day is theirs alone
 same_cell : (day meter d m days : ℕ) → day < days → 1 ≤ meter → meter ≤ 32
     → (eqb meter m && eqb day d) ≡ true
-    → ((ltb d days && between 1 meters m) ≡ true) × (d * 32 + (m - 1) ≡ day * 32 + (meter - 1))
+    → ((ltb d days && is_between 1 meters m) ≡ true) × (d * 32 + (m - 1) ≡ day * 32 + (meter - 1))
 same_cell day meter d m days within low high same =
     let parts = and_parts (eqb meter m) (eqb day d) same in
     let meters_same : meter ≡ m = eqb-true meter m parts.0 in
@@ -45,9 +46,9 @@ same_cell day meter d m days within low high same =
     )
 
 other_cell : (day meter d m days : ℕ) → 1 ≤ meter → meter ≤ 32 → (eqb meter m && eqb day d) ≡ false
-    → (ltb d days && between 1 meters m) ≡ true → d * 32 + (m - 1) ≡ day * 32 + (meter - 1) → ⊥
+    → (ltb d days && is_between 1 meters m) ≡ true → d * 32 + (m - 1) ≡ day * 32 + (meter - 1) → ⊥
 other_cell day meter d m days low high other inside e =
-    let parts = and_parts (ltb d days) (between 1 meters m) inside in
+    let parts = and_parts (ltb d days) (is_between 1 meters m) inside in
     let bounds = and_parts (leb 1 m) (leb m meters) parts.1 in
     let m_low : 1 ≤ m = leb-true 1 m bounds.0 in
     let m_high : m ≤ 32 = leb-true m 32 bounds.1 in
@@ -65,7 +66,7 @@ interval_followed {s} {h} {day} {meter} {energy} {old} {new} change within low h
   room = rw change.places f.room;
   gates = λ d. rw (change.opening, change.gates) (f.gates d);
   intervals = λ m d.
-      let written = put_read (vec_items old.intervals) 0 energy (ltb d old.opening.days && between 1 meters m) (eqb meter m && eqb day d) (day * 32 + (meter - 1)) (d * 32 + (m - 1))
+      let written = put_read (vec_items old.intervals) 0 energy (ltb d old.opening.days && is_between 1 meters m) (eqb meter m && eqb day d) (day * 32 + (meter - 1)) (d * 32 + (m - 1))
       (same_cell day meter d m old.opening.days within low high) (other_cell day meter d m old.opening.days low high) long in
       rw (change.opening, change.intervals) (written ∙ rw (f.intervals m d) (or_value (eqb meter m && eqb day d) energy 0 (latest (interval_in m d) h)));
   enrolments = λ p. rw (change.opening, change.enrolments) (f.enrolments p);
@@ -73,12 +74,12 @@ interval_followed {s} {h} {day} {meter} {energy} {old} {new} change within low h
 }
 
 same_row : (point p points : ℕ) → 1 ≤ point → point ≤ points → eqb point p ≡ true
-    → (between 1 points p ≡ true) × (p - 1 ≡ point - 1)
+    → (is_between 1 points p ≡ true) × (p - 1 ≡ point - 1)
 same_row point p points low high same =
     let e : point ≡ p = eqb-true point p same in
     (and_from _ _ (le-leb 1 p (omega arith)) (le-leb p points (omega arith)), omega arith)
 
-other_row : (point p points : ℕ) → 1 ≤ point → eqb point p ≡ false → between 1 points p ≡ true → p - 1 ≡ point - 1 → ⊥
+other_row : (point p points : ℕ) → 1 ≤ point → eqb point p ≡ false → is_between 1 points p ≡ true → p - 1 ≡ point - 1 → ⊥
 other_row point p points low other inside e =
     let p_low : 1 ≤ p = leb-true 1 p (and_parts (leb 1 p) (leb p points) inside).0 in
     eqb-false point p other (omega arith)
@@ -96,7 +97,7 @@ enrolment_followed {s} {h} {point} {enrolment} {old} {new} change low high long 
   gates = λ d. rw (change.opening, change.gates) (f.gates d);
   intervals = λ m d. rw (change.opening, change.intervals) (f.intervals m d);
   enrolments = λ p.
-      let written = put_read old.enrolments None (Some enrolment) (between 1 old.opening.points p) (eqb point p) (point - 1) (p - 1)
+      let written = put_read old.enrolments None (Some enrolment) (is_between 1 old.opening.points p) (eqb point p) (point - 1) (p - 1)
       (same_row point p old.opening.points low high) (other_row point p old.opening.points low) long in
       rw (change.opening, change.enrolments) (written ∙ rw (f.enrolments p) (or_other (eqb point p) enrolment (enrolment_of h p)));
   readings = λ test. rw change.places (f.readings test);
@@ -135,7 +136,7 @@ reading_followed {s} {h} {r} {old} {new} change f = record {
   intervals = λ m d. rw (change.opening, change.intervals) (f.intervals m d);
   enrolments = λ p. rw (change.opening, change.enrolments) (f.enrolments p);
   readings = λ test.
-      change.places test ∙ ap (λ n. n + cond (test r) 1 0) (f.readings (λ x. not (replaces r x) && test x)) ∙ held_more r test (held_of h);
+      change.places test ∙ ap (λ n. n + cond (test r) 1 0) (f.readings (λ x. not (replaces r x) && test x)) ∙ held_more r test (held_readings h);
 }
 
 -- What an entry leaves of the interval places beyond the book's days.

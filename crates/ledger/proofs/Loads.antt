@@ -8,7 +8,6 @@ use Rattle.std.proofs.lemmas.Bool.Decides.{nat_tests}
 use Rattle.std.specs.List.{find, range_with_len}
 use Rattle.std.specs.Option.{option_map}
 use Rattle.estimators.proofs.Tables.{read_passes}
-use Rattle.rules.specs.Calls.{first_without_load}
 use Rattle.rules.specs.Figures as figures
 use Rattle.rules.specs.History.{History, Setting, gate_of}
 use Rattle.rules.specs.declared.entry.GateDay.{GateDay}
@@ -19,6 +18,7 @@ use Rattle.ledger.specs.Ledger.{IsLedgerOf, interval_at, load_at, meters_sum}
 use Rattle.ledger.specs.Limits.{gate_within, interval_within, opening_within}
 use Rattle.ledger.specs.declared.opening.Opening.{Opening}
 use Rattle.ledger.specs.declared.ledger.Ledger.{Ledger}
+use Rattle.rules.specs.Calls.{first_day_without_load}
 
 is_true : (t : Bool) → T t → t ≡ true
 is_true true passes = refl
@@ -127,12 +127,12 @@ gate_bounded l d gate here = rw here at (read_passes gate_within l.gates d None 
 
 -- no step of a load is refused: the interval total of a day can be adjusted, and the load taken from it
 pub total_adjusts : (l : Ledger) (total : ℕ) → total ≤ loads.largest_interval_total
-    → loads.adjustable total l.opening.unaccounted ≡ true
+    → loads.interval_within_limits total l.opening.unaccounted ≡ true
 total_adjusts l total bound = and_from _ _ (le-leb total _ bound) (le-leb _ 2000 (opened_unaccounted l.opening l.opened))
 
 pub gate_loads : (l : Ledger) (total adjusted : ℕ) (gate : GateDay) → T (gate_within (Some gate))
     → total ≤ loads.largest_interval_total → adjusted ≡ loads.adjusted total l.opening.unaccounted
-    → loads.loadable gate.energy_in gate.energy_out adjusted ≡ true
+    → loads.gate_within_limits gate.energy_in gate.energy_out adjusted ≡ true
 gate_loads l total adjusted gate limited bound value =
     let parts = and_parts (leb gate.energy_in loads.largest_gate) (leb gate.energy_out loads.largest_gate) (is_true _ limited) in
     let short : adjusted ≤ 4000000000 = rw value (adjusted_within total _ bound (opened_unaccounted l.opening l.opened)) in
@@ -155,7 +155,7 @@ pub has_load : {s : Setting} {h : History} {l : Ledger} (d : ℕ) → IsLedgerOf
 has_load {s} {h} {l} d f within =
     let inside : ltb d l.opening.days ≡ true = lt-ltb d _ within in
     let told : get_or l.gates d None ≡ gate_of h d = rw inside at (f.gates d) in
-    some_mapped (figures.load_by s h d) (gate_of h d) ∙ ap is_some (sym told)
+    some_mapped (figures.load_from_gate s h d) (gate_of h d) ∙ ap is_some (sym told)
 
 chosen : (b : Bool) (x y : Option ℕ) → cond (not b) x y ≡ cond b y x
 chosen true x y = refl
@@ -164,7 +164,7 @@ chosen false x y = refl
 -- the first of some days of the book that has no gate entry is the first that has no load
 pub first_followed : {s : Setting} {h : History} {l : Ledger} (n day : ℕ) → IsLedgerOf s h l
     → (0 < n → day + n ≤ l.opening.days)
-    → find (λ d. not (is_some (get_or l.gates d None))) (range_with_len day n) ≡ first_without_load s h (range_with_len day n)
+    → find (λ d. not (is_some (get_or l.gates d None))) (range_with_len day n) ≡ first_day_without_load s h (range_with_len day n)
 first_followed zero day f within = refl
 first_followed {s} {h} {l} (suc n) day f within =
     let inside : day + suc n ≤ l.opening.days = within (omega arith) in

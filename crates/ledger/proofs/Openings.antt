@@ -6,7 +6,6 @@ use Rattle.std.specs.List.{list_all}
 use Rattle.calendar.specs.Digits.{day_number_of, is_date}
 use Rattle.calendar.specs.Gregorian.{days_in_all}
 use Rattle.estimators.specs.Meaning.{Meaning}
-use Rattle.rules.specs.Calls.{between, meters}
 use Rattle.rules.specs.declared.entry.Reading.{Reading}
 use Rattle.ledger.specs.Ledger.{IsLedgerOf}
 use Rattle.ledger.specs.Limits.{interval_within, opening_within}
@@ -15,6 +14,8 @@ use Rattle.ledger.specs.Places.{holds_passing}
 use Rattle.ledger.proofs.PlaceCounts.{count_cons}
 use Rattle.ledger.specs.declared.opening.OpeningRequest.{OpeningRequest}
 use Rattle.ledger.specs.declared.ledger.Ledger.{Ledger}
+use Rattle.allocation.specs.Loads.{meters}
+use Rattle.rules.specs.Calls.{is_between}
 
 cond_none : (b : Bool) (n : ℕ) (rest : Option ℕ) → cond b (Some n) rest ≡ None → (b ≡ false) × (rest ≡ None)
 cond_none true n rest e = let z : ◌≡◌ {A = ℕ} 0 1 = cc in absurd (omega arith)
@@ -37,8 +38,8 @@ accepted q interval_places reading_places e =
     let fifteen = cond_none (are_lists_short q.days interval_places reading_places) 15 _ four.1 in
     let limits = or_parts _ _ three.0 in
     let numbers = not-false _ limits.0 in
-    let days_within = and_parts (between 1 400 q.days) _ numbers in
-    let rest_within = and_parts (between 1 256 q.points) (leb q.unaccounted 2000) days_within.1 in
+    let days_within = and_parts (is_between 1 400 q.days) _ numbers in
+    let rest_within = and_parts (is_between 1 256 q.points) (leb q.unaccounted 2000) days_within.1 in
     let real : is_date q.first_date ≡ true = not-false _ four.0 in
     let early : ltb (day_number_of q.first_date + q.days) days_in_all ≡ true = not_late _ _ real limits.1 in
     record {
@@ -90,9 +91,9 @@ none_counted : (test : Reading → Bool) (n : ℕ) → count_by (holds_passing t
 none_counted test zero = refl
 none_counted test (suc n) = count_cons (holds_passing test) None (replicate n None) ∙ zero-add _ ∙ none_counted test n
 
-in_row : (days d m : ℕ) → (ltb d days && between 1 meters m) ≡ true → d * 32 + (m - 1) < days * 32
+in_row : (days d m : ℕ) → (ltb d days && is_between 1 meters m) ≡ true → d * 32 + (m - 1) < days * 32
 in_row days d m inside =
-    let parts = and_parts (ltb d days) (between 1 meters m) inside in
+    let parts = and_parts (ltb d days) (is_between 1 meters m) inside in
     let bounds = and_parts (leb 1 m) (leb m meters) parts.1 in
     let day : d < days = ltb-true d days parts.0 in
     let low : 1 ≤ m = leb-true 1 m bounds.0 in
@@ -113,9 +114,9 @@ empty_followed q l xs n m w opening gates long intervals enrolments places room 
   room = room;
   gates = λ d. rw (gates, none_read None 400 d) (cond_same (ltb d l.opening.days) None);
   intervals = λ meter d.
-      cond_both (ltb d l.opening.days && between 1 meters meter) (get_or (vec_items l.intervals) (d * 32 + (meter - 1)) 0) 0 (λ (x : ℕ). x ≡ 0)
+      cond_both (ltb d l.opening.days && is_between 1 meters meter) (get_or (vec_items l.intervals) (d * 32 + (meter - 1)) 0) 0 (λ (x : ℕ). x ≡ 0)
       (λ inside. cleared_read (q.days * 32) xs (vec_items l.intervals) long intervals (d * 32 + (meter - 1)) (in_row q.days d meter (rw (ap (λ o. o.days) opening) at inside))) (λ _. refl);
-  enrolments = λ p. rw (enrolments, none_read None 256 (p - 1)) (cond_same (between 1 l.opening.points p) None);
+  enrolments = λ p. rw (enrolments, none_read None 256 (p - 1)) (cond_same (is_between 1 l.opening.points p) None);
   readings = λ test. rw places (none_counted test n);
 }
 

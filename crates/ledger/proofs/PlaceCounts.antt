@@ -4,7 +4,7 @@ use Rattle.std.proofs.lemmas.List.Sums.{count_by-le-length, sum_by-cons, sum_by-
 use Rattle.std.proofs.lemmas.Bool.{cases_lt, le-leb, lt-leb, lt-ltb, true≢false}
 use Rattle.std.specs.List.{list_all, list_any}
 use Rattle.std.specs.Option.{MatchOption}
-use Rattle.rules.specs.Readings.{replaces, some_reading}
+use Rattle.rules.specs.Readings.{replaces}
 use Rattle.rules.specs.declared.entry.Reading.{Reading}
 use Rattle.ledger.specs.Places.{IsTestOf, TakesPlace, freed_place, holds_passing}
 
@@ -25,7 +25,7 @@ some_here true rest n e = sym (lt-ltb 0 (1 + n) (omega arith))
 some_here false rest n e = rw (zero-add n) e
 
 -- some reading passes where more than none does
-pub some_counted : (test : Reading → Bool) (rs : List Reading) → some_reading test rs ≡ ltb 0 (count_by test rs)
+pub some_counted : (test : Reading → Bool) (rs : List Reading) → list_any test rs ≡ ltb 0 (count_by test rs)
 some_counted test [] = refl
 some_counted test (r ∷ rs) = some_here (test r) _ _ (some_counted test rs) ∙ ap (λ n. ltb 0 n) (sym (count_cons test r rs))
 

@@ -2,15 +2,15 @@
 use Rattle.std.proofs.Common.{◌≡◌, ℕ, ◌+◌, Bool, true, false, cond, ◌&&◌, eqb, is_some, Some, None, Ok, Err, Option, sym, refl, ap, ◌∙◌, arith}
 use Rattle.std.proofs.lemmas.Bool.{and_from, cond-false, cond-true, not_from_false, not_from_true}
 use Rattle.std.specs.Option.{option_or}
-use Rattle.calendar.specs.Digits.{date_numbered, day_number_of, is_date}
-use Rattle.rules.specs.Calls.{between, beyond_limits, covered_named, covered_without_load, days_of, end_not_allowed, energy_within, entry_of, first_without_load, in_book, negative_energy, no_such_date, not_enrolled, outside_book, reading_of, refusal, start_no_mark}
-use Rattle.rules.specs.History.{History, Setting}
+use Rattle.calendar.specs.Digits.{day_number_of, is_date, date_of_day_number}
+use Rattle.rules.specs.Calls.{entry_of, reading_of, refusal, is_between, is_beyond_limits, date_of_day, covers_day_without_load, ends_where_not_allowed, is_energy_within_limit, first_day_without_load, is_in_book, has_negative_energy, names_no_date, names_unenrolled_point, names_day_outside_book, starts_at_no_mark}
+use Rattle.rules.specs.History.{History, Setting, covered_days}
 use Rattle.rules.specs.declared.call.Call.{Call}
 use Rattle.rules.specs.declared.call.Call.TheVariants.{EnterReading}
 use Rattle.rules.specs.declared.call.Delivery.{Delivery}
 use Rattle.rules.specs.declared.entry.Entry.TheVariants.{ReadingTaken}
 use Rattle.rules.specs.declared.entry.Reading.{Reading}
-use Rattle.terms.specs.Numbers.{day_named, number_of}
+use Rattle.terms.specs.Refusal.{number_of, date_named}
 use Rattle.terms.specs.declared.refusal.Refusal.{Refusal}
 use Rattle.terms.specs.declared.refusal.Refusal.TheVariants.{MalformedLine, OutOfTurn, BeyondLimits, NoSuchDate, OutsideBook, NegativeEnergy, PointNotEnrolled, PointEnrolledAlready, StartIsNoMark, EndNotAllowed, CoveredDayWithoutLoad, SoftOverFirm, ReadingPlacesFull, AskedDayWithoutLoad, ListTooShort}
 use Rattle.ledger.specs.Ledger.{IsEntryJudgement, IsLedgerOf}
@@ -21,13 +21,13 @@ use Rattle.ledger.specs.declared.ledger.Ledger.{Ledger}
 
 -- what a ledger's own tests of a reading say of its refusal
 module _ {s : Setting} {h : History} {l : Ledger} (f : IsLedgerOf s h l) (r : Reading) where
-  marked : is_mark_at l r.point r.start ≡ true → start_no_mark h r ≡ false
+  marked : is_mark_at l r.point r.start ≡ true → starts_at_no_mark h r ≡ false
   marked start = not_from_true _ (sym (mark_followed f r.point r.start) ∙ start)
 
-  allowed : is_end_allowed_at l r ≡ true → end_not_allowed h r ≡ false
+  allowed : is_end_allowed_at l r ≡ true → ends_where_not_allowed h r ≡ false
   allowed end = sym (end_followed f r) ∙ not_from_true _ end
 
-  loaded : None ≡ first_without_load s h (days_of r) → covered_without_load s h r ≡ false
+  loaded : None ≡ first_day_without_load s h (covered_days r) → covers_day_without_load s h r ≡ false
   loaded loads = ap is_some (sym loads)
 
   pub no_start : is_mark_at l r.point r.start ≡ false → (span_refusal s h r ≡ Some 9) × (None ≡ span_named s h r 9)
@@ -40,17 +40,17 @@ module _ {s : Setting} {h : History} {l : Ledger} (f : IsLedgerOf s h l) (r : Re
   no_end start end = (cond-false _ _ _ (marked start) ∙ cond-true _ _ _ (sym (end_followed f r) ∙ not_from_false _ end), refl)
 
   pub no_day_load : (day date : ℕ) → is_mark_at l r.point r.start ≡ true
-      → is_end_allowed_at l r ≡ true → Some day ≡ first_without_load s h (days_of r)
-      → date ≡ date_numbered (l.opening.first + day)
+      → is_end_allowed_at l r ≡ true → Some day ≡ first_day_without_load s h (covered_days r)
+      → date ≡ date_of_day_number (l.opening.first + day)
       → (span_refusal s h r ≡ Some 11) × (Some date ≡ span_named s h r 11)
   unfolding span_refusal span_named
   no_day_load day date start end day_found dated = (
     cond-false _ _ _ (marked start) ∙ cond-false _ _ _ (allowed end) ∙ cond-true _ _ _ (ap is_some (sym day_found)),
-    ap Some (dated ∙ ap (λ n. date_numbered (n + day)) f.first) ∙ ap (covered_named s) day_found,
+    ap Some (dated ∙ ap (λ n. date_of_day_number (n + day)) f.first) ∙ ap (date_of_day s) day_found,
   )
 
   pub no_soft : is_mark_at l r.point r.start ≡ true → is_end_allowed_at l r ≡ true
-      → None ≡ first_without_load s h (days_of r) → is_soft_over_firm_at l r ≡ true
+      → None ≡ first_day_without_load s h (covered_days r) → is_soft_over_firm_at l r ≡ true
       → (span_refusal s h r ≡ Some 12) × (None ≡ span_named s h r 12)
   unfolding span_refusal span_named
   no_soft start end loads soft = (
@@ -59,7 +59,7 @@ module _ {s : Setting} {h : History} {l : Ledger} (f : IsLedgerOf s h l) (r : Re
   )
 
   pub no_place : is_mark_at l r.point r.start ≡ true → is_end_allowed_at l r ≡ true
-      → None ≡ first_without_load s h (days_of r) → is_soft_over_firm_at l r ≡ false
+      → None ≡ first_day_without_load s h (covered_days r) → is_soft_over_firm_at l r ≡ false
       → is_full_at l r ≡ true → (span_refusal s h r ≡ Some 13) × (None ≡ span_named s h r 13)
   unfolding span_refusal span_named
   no_place start end loads soft full = (
@@ -69,7 +69,7 @@ module _ {s : Setting} {h : History} {l : Ledger} (f : IsLedgerOf s h l) (r : Re
   )
 
   pub span_accepted : is_mark_at l r.point r.start ≡ true → is_end_allowed_at l r ≡ true
-      → None ≡ first_without_load s h (days_of r) → is_soft_over_firm_at l r ≡ false
+      → None ≡ first_day_without_load s h (covered_days r) → is_soft_over_firm_at l r ≡ false
       → is_full_at l r ≡ false → span_refusal s h r ≡ None
   unfolding span_refusal
   span_accepted start end loads soft full =
@@ -77,7 +77,7 @@ module _ {s : Setting} {h : History} {l : Ledger} (f : IsLedgerOf s h l) (r : Re
       ∙ cond-false _ _ _ (sym (full_followed f r) ∙ full)
 
 -- a refusal for a date outside the book names no day
-pub names_none : (e : Refusal) → number_of e ≡ 5 → day_named e ≡ None
+pub names_none : (e : Refusal) → number_of e ≡ 5 → date_named e ≡ None
 names_none MalformedLine e = refl
 names_none OutOfTurn e = refl
 names_none BeyondLimits e = refl
@@ -97,14 +97,14 @@ names_none ListTooShort e = refl
 -- a day number lies in the book's days where its date does
 pub in_book_of : {s : Setting} {h : History} {l : Ledger} (later date number : ℕ) (b : Bool)
     → IsLedgerOf s h l → number ≡ day_number_of date → has_day_number l.opening later number ≡ b
-    → in_book s later date ≡ b
+    → is_in_book s later date ≡ b
 in_book_of {s} {h} {l} later date number b f numbered inside = rw (← f.first, ← f.days, ← numbered) inside
 
 -- a date outside the book
 pub outside_refused : (s : Setting) (h : History) (delivery : Delivery) (e : Refusal)
-    → between 1 s.points delivery.point ≡ true → energy_within delivery.energy ≡ true
+    → is_between 1 s.points delivery.point ≡ true → is_energy_within_limit delivery.energy ≡ true
     → is_date delivery.start ≡ true → is_date delivery.end ≡ true
-    → (in_book s 0 delivery.start && in_book s 1 delivery.end) ≡ false → number_of e ≡ 5
+    → (is_in_book s 0 delivery.start && is_in_book s 1 delivery.end) ≡ false → number_of e ≡ 5
     → IsNumbersJudgement s h (EnterReading delivery) (Err e)
 outside_refused s h delivery e pointed limited start_real end_real outside five = (
   cond-false _ _ _ (not_from_true _ (and_from _ _ pointed limited)) ∙ cond-false _ _ _ (not_from_true _ (and_from _ _ start_real end_real))
@@ -143,7 +143,7 @@ module _ (s : Setting) (h : History) (delivery : Delivery) where
   -- the refusal of a reading: that of its numbers, else that of its span
   in_turn : refusal s h call ≡ option_or (numbers_refusal s h call) (span_refusal s h taken)
   unfolding span_refusal
-  in_turn = split (beyond_limits s call) (no_such_date call) (outside_book s call) (negative_energy call) (not_enrolled h call) (span_refusal s h taken)
+  in_turn = split (is_beyond_limits s call) (names_no_date call) (names_day_outside_book s call) (has_negative_energy call) (names_unenrolled_point h call) (span_refusal s h taken)
 
   pub numbers_refused : (e : Refusal) → IsNumbersJudgement s h call (Err e)
       → IsEntryJudgement s h call ReadingTaken (Err e)
@@ -152,7 +152,7 @@ module _ (s : Setting) (h : History) (delivery : Delivery) where
     judged.1
         ∙ sym
         (cond-false _ _ _
-        (unnamed (beyond_limits s call) (no_such_date call) (outside_book s call) (negative_energy call) (not_enrolled h call) (number_of e) judged.0)),
+        (unnamed (is_beyond_limits s call) (names_no_date call) (names_day_outside_book s call) (has_negative_energy call) (names_unenrolled_point h call) (number_of e) judged.0)),
   )
 
   same_reading : (r : Reading) → entry_of s call ≡ Some (ReadingTaken r) → taken ≡ r

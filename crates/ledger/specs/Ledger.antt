@@ -3,17 +3,17 @@
 use Rattle.std.specs.Prelude.{◌≡◌, ℕ, ◌+◌, ◌-◌, ◌*◌, ◌<◌, ◌≤◌, Bool, T, if◌then◌else◌, not, ◌&&◌, List, [], ◌∷◌, map, drop, Some, None, Ok, Err, vec_items, vec_len, sum, count_by, Option, Result, Vec, OnErr, nat_lt, slice_index, slice_index_or, slice_set}
 use Rattle.std.specs.List.{range_with_len}
 use Rattle.std.specs.declared.alloc.Global.{Global}
-use Rattle.allocation.specs.Loads.{adjusted, net_load}
+use Rattle.allocation.specs.Loads.{adjusted, net_load, meters}
 use Rattle.estimators.specs.Meaning.{Meaning}
-use Rattle.rules.specs.Calls.{between, entry_of, meters, named_by, place, refusal}
-use Rattle.rules.specs.History.{History, Setting, enrolment_of, gate_of, interval_of}
-use Rattle.rules.specs.Readings.{held_of, replaces}
+use Rattle.rules.specs.Calls.{entry_of, refusal, is_between, named_date, day_of_date}
+use Rattle.rules.specs.History.{History, Setting, enrolment_of, gate_of, interval_energy}
+use Rattle.rules.specs.Readings.{replaces, held_readings}
 use Rattle.rules.specs.declared.call.Call.{Call}
 use Rattle.rules.specs.declared.entry.Enrolment.{Enrolment}
 use Rattle.rules.specs.declared.entry.Entry.{Entry}
 use Rattle.rules.specs.declared.entry.GateDay.{GateDay}
 use Rattle.rules.specs.declared.entry.Reading.{Reading}
-use Rattle.terms.specs.Numbers.{number_of, day_named}
+use Rattle.terms.specs.Refusal.{number_of, date_named}
 use Rattle.terms.specs.declared.refusal.Refusal.{Refusal}
 use Rattle.ledger.specs.Limits.{gate_within, interval_within}
 use Rattle.ledger.specs.Opening.{opening_refusal, setting_of}
@@ -53,7 +53,7 @@ gate_at l day = if nat_lt day l.opening.days then slice_index_or l.gates day Non
 -- the energy of an interval meter on a day of the book, day by day and by meter; any other is 0
 abbrev pub interval_at : Ledger → ℕ → ℕ → ℕ
 interval_at l meter day =
-    if nat_lt day l.opening.days && between 1 meters meter
+    if nat_lt day l.opening.days && is_between 1 meters meter
     then slice_index (vec_items l.intervals) (day * meters + (meter - 1))
     else 0
 
@@ -70,7 +70,7 @@ load_at l day gate =
 -- the enrolment of a point of the book; another point has none
 abbrev pub enrolment_at : Ledger → ℕ → Option Enrolment
 enrolment_at l point =
-    if between 1 l.opening.points point then slice_index_or l.enrolments (point - 1) None else None
+    if is_between 1 l.opening.points point then slice_index_or l.enrolments (point - 1) None else None
 
 -- what the interval list holds beyond the book's days
 abbrev pub beyond_days : Ledger → List ℕ
@@ -87,10 +87,10 @@ pub record IsLedgerOf (s : Setting) (h : History) (l : Ledger) : Type 0 where
   pub unaccounted : l.opening.unaccounted ≡ s.unaccounted
   pub room : vec_len l.places ≡ s.places
   pub gates : (d : ℕ) → gate_at l d ≡ gate_of h d
-  pub intervals : (m d : ℕ) → interval_at l m d ≡ interval_of h m d
+  pub intervals : (m d : ℕ) → interval_at l m d ≡ interval_energy h m d
   pub enrolments : (p : ℕ) → enrolment_at l p ≡ enrolment_of h p
   pub readings : (test : Reading → Bool)
-      → count_by (holds_passing test) (vec_items l.places) ≡ count_by test (held_of h)
+      → count_by (holds_passing test) (vec_items l.places) ≡ count_by test (held_readings h)
 
 -- P holds of every setting and history that the ledger is of
 abbrev pub EachLedgerHistory : Ledger → (Setting → History → Type 0) → Type 0
@@ -101,7 +101,7 @@ EachLedgerHistory l P = (s : Setting) (h : History) → IsLedgerOf s h l → P s
 -- a call is refused as the law says: by the first condition that holds, with the day that it names
 abbrev pub IsCallRefusal : Setting → History → Call → Refusal → Type 0
 IsCallRefusal s h c e =
-    (refusal s h c ≡ Some (number_of e)) × (day_named e ≡ named_by s h c (number_of e))
+    (refusal s h c ≡ Some (number_of e)) × (date_named e ≡ named_date s h c (number_of e))
 
 -- an entry is judged as the law says: it is refused, or what is given makes the call's entry
 abbrev pub IsEntryJudgement : {X : Type 0}
@@ -111,7 +111,7 @@ IsEntryJudgement s h c made (Err e) = IsCallRefusal s h c e
 
 -- a question is judged as the law says: it is refused, or given the day that its date is
 abbrev pub IsQuestionJudgement : Setting → History → Call → ℕ → Result ℕ Refusal → Type 0
-IsQuestionJudgement s h c date (Ok day) = (refusal s h c ≡ None) × (day ≡ place s date)
+IsQuestionJudgement s h c date (Ok day) = (refusal s h c ≡ None) × (day ≡ day_of_date s date)
 IsQuestionJudgement s h c date (Err e) = IsCallRefusal s h c e
 
 -- the same of every history that the ledger is of

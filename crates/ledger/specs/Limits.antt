@@ -3,9 +3,8 @@ use Rattle.std.specs.Prelude.{ℕ, ◌+◌, ◌*◌, Bool, true, ◌&&◌, List,
 use Rattle.std.specs.List.{list_all}
 use Rattle.calendar.specs.Gregorian.{days_in_all}
 use Rattle.estimators.specs.Limits.{last_day, last_point}
-use Rattle.rules.specs.Calls.{largest_interval, meters}
 use Rattle.rules.specs.declared.entry.GateDay.{GateDay}
-use Rattle.allocation.specs.Loads.{largest_gate, largest_unaccounted}
+use Rattle.allocation.specs.Loads.{largest_gate, largest_unaccounted, largest_interval, meters}
 use Rattle.ledger.specs.declared.opening.Opening.{Opening}
 
 -- the days, the points and the share of unaccounted-for gas of a book are within their limits, and

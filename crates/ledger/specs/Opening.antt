@@ -4,14 +4,14 @@ use Rattle.calendar.specs.Digits.{day_number_of, is_date}
 use Rattle.calendar.specs.Gregorian.{days_in_all}
 use Rattle.estimators.specs.Limits.{last_day, last_point}
 use Rattle.estimators.specs.Meaning.{Meaning}
-use Rattle.rules.specs.Calls.{between, first_holding, meters}
 use Rattle.rules.specs.History.{Setting}
-use Rattle.allocation.specs.Loads.{largest_unaccounted}
-use Rattle.terms.specs.Answers.{Answers, RefusedBy}
-use Rattle.terms.specs.Numbers.{number_of}
+use Rattle.allocation.specs.Loads.{largest_unaccounted, meters}
+use Rattle.terms.specs.Answers.{Answers, IsRefusedBy}
+use Rattle.terms.specs.Refusal.{number_of}
 use Rattle.terms.specs.declared.refusal.Refusal.{Refusal}
 use Rattle.ledger.specs.declared.opening.Opening.{Opening}
 use Rattle.ledger.specs.declared.opening.OpeningRequest.{OpeningRequest}
+use Rattle.rules.specs.Calls.{is_between, first_refusal}
 
 -- a day number is that of a day of the book, or of one at most so many days later
 abbrev pub has_day_number : Opening → ℕ → ℕ → Bool
@@ -24,13 +24,13 @@ abbrev pub JudgesDay : Opening → ℕ → Result ℕ Refusal → Type 0
 JudgesDay o date r =
     MatchBool (is_date date)
     (Answers r (has_day_number o 0 (day_number_of date)) (day_number_of date - o.first) 5)
-    (RefusedBy 4 r)
+    (IsRefusedBy 4 r)
 
 -- 3: a number is beyond its limits, or the last day is later than 30 December 2099
 abbrev pub is_opening_beyond_limits : OpeningRequest → Bool
 is_opening_beyond_limits q =
-    not (between 1 last_day q.days
-    && (between 1 last_point q.points && nat_le q.unaccounted largest_unaccounted))
+    not (is_between 1 last_day q.days
+    && (is_between 1 last_point q.points && nat_le q.unaccounted largest_unaccounted))
     || (is_date q.first_date && not (nat_lt (day_number_of q.first_date + q.days) days_in_all))
 
 -- 15: the interval list has fewer places than meters on all days, or the reading list none
@@ -41,7 +41,7 @@ are_lists_short days interval_places reading_places =
 -- the refusal of an opening, by its number; none where it is accepted
 abbrev pub opening_refusal : OpeningRequest → ℕ → ℕ → Option ℕ
 opening_refusal q interval_places reading_places =
-    first_holding
+    first_refusal
     (record { number = 3; holds = is_opening_beyond_limits q }
     ∷ record { number = 4; holds = not (is_date q.first_date) }
     ∷ record { number = 15; holds = are_lists_short q.days interval_places reading_places } ∷ [])

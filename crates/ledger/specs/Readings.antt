@@ -1,20 +1,20 @@
 -- What a ledger's tables say of marks, replaced readings and room, and the two steps in which a
 -- reading is judged.
 use Rattle.std.specs.Prelude.{◌≡◌, ℕ, ◌<◌, Bool, if◌then◌else◌, not, ◌&&◌, ◌||◌, [], ◌∷◌, Some, None, Ok, Err, vec_items, vec_len, count_by, Option, Result, ◌==◌, nat_le, nat_lt}
-use Rattle.rules.specs.Calls.{beyond_limits, covered_named, covered_without_load, days_of, end_not_allowed, entry_of, first_holding, first_without_load, negative_energy, no_such_date, not_enrolled, outside_book, places_full, soft_over_firm, start_no_mark, started_before}
-use Rattle.rules.specs.History.{History, Setting}
-use Rattle.rules.specs.Readings.{replaces, starts}
+use Rattle.rules.specs.Calls.{entry_of, is_beyond_limits, date_of_day, covers_day_without_load, ends_where_not_allowed, first_refusal, first_day_without_load, has_negative_energy, names_no_date, names_unenrolled_point, names_day_outside_book, finds_no_place, replaces_firm_though_soft, starts_at_no_mark, has_begun_before}
+use Rattle.rules.specs.History.{History, Setting, covered_days}
+use Rattle.rules.specs.Readings.{replaces, starts_on}
 use Rattle.rules.specs.declared.call.Call.{Call}
 use Rattle.rules.specs.declared.call.Call.TheVariants.{EnterReading}
 use Rattle.rules.specs.declared.call.Delivery.{Delivery}
 use Rattle.rules.specs.declared.entry.Entry.TheVariants.{ReadingTaken}
 use Rattle.rules.specs.declared.entry.Reading.{Reading}
-use Rattle.terms.specs.Numbers.{number_of, day_named}
-use Rattle.terms.specs.Types.{firm}
+use Rattle.terms.specs.Refusal.{number_of, date_named}
 use Rattle.terms.specs.declared.refusal.Refusal.{Refusal}
 use Rattle.ledger.specs.Ledger.{EachLedgerHistory, enrolment_at}
 use Rattle.ledger.specs.Places.{holds_passing}
 use Rattle.ledger.specs.declared.ledger.Ledger.{Ledger}
+use Rattle.terms.specs.ReadingType.{is_firm}
 
 -- some place of the ledger holds a reading that passes a test
 abbrev pub some_at : Ledger → (Reading → Bool) → Bool
@@ -23,12 +23,12 @@ some_at l test = nat_lt 0 (count_by (holds_passing test) (vec_items l.places))
 -- a day is the start day of a point, or the end of a reading of it
 abbrev pub is_mark_at : Ledger → ℕ → ℕ → Bool
 is_mark_at l point day =
-    starts (enrolment_at l point) day || some_at l (λ r. (r.point == point) && r.end == day)
+    starts_on (enrolment_at l point) day || some_at l (λ r. (r.point == point) && r.end == day)
 
 -- a point starts before a day, and no reading of it ends on that day or later
 abbrev pub is_after_marks_at : Ledger → ℕ → ℕ → Bool
 is_after_marks_at l point day =
-    started_before (enrolment_at l point) day
+    has_begun_before (enrolment_at l point) day
     && not (some_at l (λ r. (r.point == point) && nat_le day r.end))
 
 -- a reading ends after its start, and at a mark or later than every mark
@@ -39,7 +39,7 @@ is_end_allowed_at l r =
 -- a reading is soft and would replace a firm one
 abbrev pub is_soft_over_firm_at : Ledger → Reading → Bool
 is_soft_over_firm_at l r =
-    not (firm r.reading_type) && some_at l (λ old. replaces r old && firm old.reading_type)
+    not (is_firm r.reading_type) && some_at l (λ old. replaces r old && is_firm old.reading_type)
 
 -- how many places hold readings that stay beside a new one
 abbrev pub kept_count : Ledger → Reading → ℕ
@@ -59,37 +59,37 @@ is_full_at l r = nat_le (vec_len l.places) (kept_count l r)
 -- the refusals of a call for its numbers, its dates and its point
 abbrev pub numbers_refusal : Setting → History → Call → Option ℕ
 numbers_refusal s h c =
-    first_holding
-    (record { number = 3; holds = beyond_limits s c }
-    ∷ record { number = 4; holds = no_such_date c }
-    ∷ record { number = 5; holds = outside_book s c }
-    ∷ record { number = 6; holds = negative_energy c }
-    ∷ record { number = 7; holds = not_enrolled h c } ∷ [])
+    first_refusal
+    (record { number = 3; holds = is_beyond_limits s c }
+    ∷ record { number = 4; holds = names_no_date c }
+    ∷ record { number = 5; holds = names_day_outside_book s c }
+    ∷ record { number = 6; holds = has_negative_energy c }
+    ∷ record { number = 7; holds = names_unenrolled_point h c } ∷ [])
 
 abbrev pub IsNumbersJudgement : Setting → History → Call → Result Reading Refusal → Type 0
 IsNumbersJudgement s h c (Ok r) =
     (numbers_refusal s h c ≡ None) × (entry_of s c ≡ Some (ReadingTaken r))
 IsNumbersJudgement s h c (Err e) =
-    (numbers_refusal s h c ≡ Some (number_of e)) × (day_named e ≡ None)
+    (numbers_refusal s h c ≡ Some (number_of e)) × (date_named e ≡ None)
 
 -- the refusals of a reading for its span, and for the readings that are held
 unfoldable pub span_refusal : Setting → History → Reading → Option ℕ
 span_refusal s h r =
-    first_holding
-    (record { number = 9; holds = start_no_mark h r }
-    ∷ record { number = 10; holds = end_not_allowed h r }
-    ∷ record { number = 11; holds = covered_without_load s h r }
-    ∷ record { number = 12; holds = soft_over_firm h r }
-    ∷ record { number = 13; holds = places_full s h r } ∷ [])
+    first_refusal
+    (record { number = 9; holds = starts_at_no_mark h r }
+    ∷ record { number = 10; holds = ends_where_not_allowed h r }
+    ∷ record { number = 11; holds = covers_day_without_load s h r }
+    ∷ record { number = 12; holds = replaces_firm_though_soft h r }
+    ∷ record { number = 13; holds = finds_no_place s h r } ∷ [])
 
 -- the day that such a refusal names
 unfoldable pub span_named : Setting → History → Reading → ℕ → Option ℕ
-span_named s h r n = if n == 11 then covered_named s (first_without_load s h (days_of r)) else None
+span_named s h r n = if n == 11 then date_of_day s (first_day_without_load s h (covered_days r)) else None
 
 abbrev pub IsSpanJudgement : {X : Type 0} → Setting → History → Reading → Result X Refusal → Type 0
 IsSpanJudgement s h r (Ok x) = span_refusal s h r ≡ None
 IsSpanJudgement s h r (Err e) =
-    (span_refusal s h r ≡ Some (number_of e)) × (day_named e ≡ span_named s h r (number_of e))
+    (span_refusal s h r ≡ Some (number_of e)) × (date_named e ≡ span_named s h r (number_of e))
 
 -- a ledger judges the numbers of a delivery so
 abbrev pub JudgesNumbers : Ledger → Delivery → Result Reading Refusal → Type 0

@@ -1,8 +1,7 @@
 ghost use Rattle.std.specs.Prelude.{◌≡◌, ℕ, ◌+◌, ◌-◌, ◌*◌, ◌<◌, ◌≤◌, T, take, length, is_some, vec_items, vec_len, replicate, Option, IfOk, IfErr, IfSome, OnOk};
 ghost use Rattle.std.specs.List.{list_all};
-ghost use Rattle.allocation.specs.Loads.{largest_gate, largest_interval_total};
+ghost use Rattle.allocation.specs.Loads.{largest_gate, largest_interval_total, meters};
 ghost use Rattle.estimators.specs.Limits.{last_day, last_point};
-ghost use Rattle.rules.specs.Calls.{between, meters};
 ghost use Rattle.rules.specs.Figures as figures;
 ghost use Rattle.rules.specs.History.{enrolment_of};
 ghost use Rattle.rules.specs.declared.call.Call.TheVariants.{AskDay, AskFigure, AskRetailer, Enrol, EnterDegreeDays, EnterGate, EnterInterval};
@@ -10,6 +9,7 @@ ghost use Rattle.rules.specs.declared.entry.Entry.TheVariants.{DegreeDaysEntered
 ghost use Rattle.terms.specs.Answers.{Answers};
 ghost use Rattle.ledger.specs.Limits.{all_intervals_within, gate_within, opening_within};
 ghost use Rattle.ledger.specs.Opening.{JudgesDay, has_day_number};
+ghost use Rattle.rules.specs.Calls.{is_between};
 
 use super::limits::{LARGEST_INTERVAL, METERS, retailer_within};
 use super::opening::{Opening, OpeningRequest, Unopened, clear_front, judge_opening};
@@ -150,7 +150,7 @@ impl Ledger {
 
     // Whether the book has such a point.
     pub(crate) fn has_point(&self, point: u32) -> bool
-        ensures { result ≡ between 1 self.now.opening.points point }
+        ensures { result ≡ is_between 1 self.now.opening.points point }
     {
         (1..=self.opening.points).contains(&point)
     }

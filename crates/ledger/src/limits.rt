@@ -1,5 +1,6 @@
 ghost use Rattle.std.specs.Prelude.{◌≡◌};
-ghost use Rattle.rules.specs.Calls.{between, retailers};
+ghost use Rattle.terms.specs.Limits.{retailers};
+ghost use Rattle.rules.specs.Calls.{is_between};
 
 // The interval meters of an area, numbered from 1.
 pub(crate) const METERS: u32 = 32;
@@ -15,7 +16,7 @@ pub(crate) const LARGEST_ENERGY: i64 = 10_000_000;
 
 // Whether there is such a retailer.
 pub(crate) fn retailer_within(retailer: u32) -> bool
-    ensures { result ≡ between 1 retailers retailer }
+    ensures { result ≡ is_between 1 retailers retailer }
 {
     (1..=RETAILERS).contains(&retailer)
 }

@@ -3,14 +3,14 @@ ghost use Rattle.std.specs.Fn.{FnReturnsAt};
 ghost use Rattle.std.specs.List.{range_with_len};
 ghost use Rattle.std.specs.Option.{option_map};
 ghost use Rattle.calendar.specs.Digits as dates;
-ghost use Rattle.rules.specs.Calls.{after_all_marks, end_not_allowed, first_without_load, soft_over_firm};
 ghost use Rattle.rules.specs.Readings as held;
 ghost use Rattle.rules.specs.declared.call.Call.TheVariants.{EnterReading};
 ghost use Rattle.rules.specs.declared.entry.Entry.TheVariants.{ReadingTaken};
-ghost use Rattle.terms.specs.Types.{firm};
 ghost use Rattle.ledger.specs.Ledger.{EachLedgerHistory, EntersInLedger, HasDay, JudgesEntry, WithReading, enrolment_at};
 ghost use Rattle.ledger.specs.Places.{EachTestOf};
 ghost use Rattle.ledger.specs.Readings.{HasRoomFor, JudgesNumbers, JudgesSpan, is_after_marks_at, is_end_allowed_at, is_full_at, is_mark_at, is_soft_over_firm_at, some_at};
+ghost use Rattle.terms.specs.ReadingType.{is_firm};
+ghost use Rattle.rules.specs.Calls.{is_after_all_marks, ends_where_not_allowed, first_day_without_load, replaces_firm_though_soft};
 
 use super::ledger::Ledger;
 use super::limits::LARGEST_ENERGY;
@@ -53,7 +53,7 @@ impl Ledger {
     /// Whether a day is a mark of a point: its start day, or the end of a reading that it holds.
     pub fn is_mark(&self, point: u32, day: u32) -> bool
         ensures value { result ≡ is_mark_at self.now point day }
-        ensures law { EachLedgerHistory self.now (λ s h. result ≡ held.mark h point day) }
+        ensures law { EachLedgerHistory self.now (λ s h. result ≡ held.is_mark h point day) }
     {
         self.start_day_of(point) == Some(day) || self.holds_end_on(point, day)
     }
@@ -61,7 +61,7 @@ impl Ledger {
     /// Whether a point is enrolled and a day is later than all its marks.
     pub fn is_after_all_marks(&self, point: u32, day: u32) -> bool
         ensures value { result ≡ is_after_marks_at self.now point day }
-        ensures law { EachLedgerHistory self.now (λ s h. result ≡ after_all_marks h point day) }
+        ensures law { EachLedgerHistory self.now (λ s h. result ≡ is_after_all_marks h point day) }
     {
         self.start_day_of(point).is_some_and(|start| start < day)
             && !self.holds_end_from(point, day)
@@ -72,7 +72,7 @@ impl Ledger {
     fn may_end(&self, reading: &Reading) -> bool
         ensures value { result ≡ is_end_allowed_at self.now reading.now }
         ensures law { EachLedgerHistory self.now
-            (λ s h. end_not_allowed h reading.now ≡ not result) }
+            (λ s h. ends_where_not_allowed h reading.now ≡ not result) }
     {
         reading.start < reading.end
             && (self.is_mark(reading.point, reading.end)
@@ -84,7 +84,7 @@ impl Ledger {
         requires { end ≤ self.now.opening.days }
         ensures within { IfSome result (HasDay self.now) }
         ensures law { EachLedgerHistory self.now (λ s h.
-            result ≡ first_without_load s h (range_with_len start (end - start))) }
+            result ≡ first_day_without_load s h (range_with_len start (end - start))) }
     {
         (start..end).find(|day| self.gates[*day as usize].is_none())
     }
@@ -92,7 +92,7 @@ impl Ledger {
     // The date of a day of the book.
     fn date_of_day(&self, day: u32) -> u32
         requires { HasDay self.now day }
-        ensures { result ≡ dates.date_numbered (self.now.opening.first + day) }
+        ensures { result ≡ dates.date_of_day_number (self.now.opening.first + day) }
     {
         date_of_day_number(self.opening.first + day).unwrap()
     }
@@ -100,7 +100,7 @@ impl Ledger {
     // Whether a firm reading is held that a new one would replace.
     fn holds_firm_under(&self, reading: &Reading) -> bool
         ensures { result ≡ some_at self.now
-            (λ old. held.replaces reading.now old && firm old.reading_type) }
+            (λ old. held.replaces reading.now old && is_firm old.reading_type) }
     {
         self.holds_some(|old| replaces(reading, old) && old.reading_type.is_firm())
     }
@@ -108,7 +108,7 @@ impl Ledger {
     // Whether a reading is soft and a firm one that it would replace is held, which the rules refuse.
     fn is_soft_over_firm(&self, reading: &Reading) -> bool
         ensures value { result ≡ is_soft_over_firm_at self.now reading.now }
-        ensures law { EachLedgerHistory self.now (λ s h. result ≡ soft_over_firm h reading.now) }
+        ensures law { EachLedgerHistory self.now (λ s h. result ≡ replaces_firm_though_soft h reading.now) }
     {
         !reading.reading_type.is_firm() && self.holds_firm_under(reading)
     }

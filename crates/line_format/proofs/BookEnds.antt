@@ -3,13 +3,13 @@ use Rattle.std.proofs.Common.{◌≡◌, ℕ, ◌+◌, ◌-◌, min, Bool, true,
 use Rattle.terms.specs.Answers.{Answers}
 use Rattle.terms.specs.declared.refusal.Refusal.{Refusal}
 use Rattle.std.proofs.lemmas.Bool.Decides.{nat_tests}
-use Rattle.calendar.specs.Gregorian.{leap, month_lengths, days_before_month, year_length, days_before_year}
+use Rattle.calendar.specs.Gregorian.{month_lengths, days_before_month, year_length, days_before_year, is_leap}
 use Rattle.calendar.specs.Digits.{is_date, day_number_of}
 use Rattle.line_format.specs.Limits.{ends_in_time}
 
 -- the number of 30 December 2099
 pub last_end : day_number_of 20991230 ≡ 36157
-unfolding day_number_of days_before_year year_length days_before_month month_lengths leap
+unfolding day_number_of days_before_year year_length days_before_month month_lengths is_leap
 last_end = refl
 
 by_sum : (b : Bool) (n days day sum : ℕ) → Answers (Ok day) b n 4 → sum ≡ min (days + day) 18446744073709551615 → ltb sum 36159 ≡ (not b || leb (n + days - 1) 36157)

@@ -1,6 +1,6 @@
 -- Laws of every kind: so many columns, and one value for them. Assumes nothing.
 use Rattle.std.proofs.Common.{◌≡◌, ℕ, cond, T, eqb, List, length, get_or, Err, sym, refl, ap, ◌∙◌, arith}
-use Rattle.terms.specs.Letters.{letter_of}
+use Rattle.terms.specs.ReadingType.{letter_of}
 use Rattle.terms.specs.declared.refusal.Refusal.{Refusal}
 use Rattle.line_format.specs.Columns.{InvertsWriting}
 use Rattle.line_format.specs.FieldValue.{ReadsField}

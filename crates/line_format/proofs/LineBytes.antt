@@ -7,7 +7,7 @@ use Rattle.std.proofs.lemmas.List.{append-nil, take_more, take_all}
 use Rattle.terms.specs.Answers.{Answers, accepted_since, refused_since}
 use Rattle.terms.specs.declared.refusal.Refusal.{Refusal}
 use Rattle.line_format.specs.Kind.{fits, columns}
-use Rattle.terms.specs.Letters.{letter_of}
+use Rattle.terms.specs.ReadingType.{letter_of}
 use Rattle.terms.specs.declared.reading_type.ReadingType.{ReadingType}
 use Rattle.line_format.specs.Record.{Content, all_fit, letter_content, line_bytes, record_fits, blank_field, record_bytes, WritesField, WritesFields, WritesRecord}
 use Rattle.line_format.specs.Tag.{tag_bytes}

@@ -1,7 +1,7 @@
 -- How values stand in columns, and reading as the inverse of writing.
 use Rattle.std.specs.Prelude.{◌≡◌, ◌≢◌, ℕ, zero, suc, ◌+◌, ◌-◌, ◌/◌, ◌%◌, ◌^◌, Bool, T, List, [], ◌∷◌, ◌++◌, length, replicate, ℤ, pos, negsuc, nat_lt, Ok, Err, Result}
 use Rattle.std.specs.Fmt as fmt
-use Rattle.terms.specs.Numbers.{number_of}
+use Rattle.terms.specs.Refusal.{number_of}
 use Rattle.terms.specs.declared.refusal.Refusal.{Refusal}
 
 -- a text at the right of ten columns, spaces before it

@@ -1,6 +1,6 @@
 -- Faults: where a line is refused, and on which line.
 use Rattle.std.specs.Prelude.{ℕ, Some, None, Ok, Err, Option, Result}
-use Rattle.terms.specs.Numbers.{number_of, layer_of}
+use Rattle.terms.specs.Refusal.{number_of, layer_of}
 use Rattle.terms.specs.declared.refusal.Refusal.{Refusal}
 use Rattle.line_format.specs.declared.fault.Fault.{Fault}
 use Rattle.line_format.specs.declared.fault.LineFault.{LineFault}

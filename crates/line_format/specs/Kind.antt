@@ -1,7 +1,7 @@
 -- The kinds of what may stand in the columns of a line.
 use Rattle.std.specs.Prelude.{◌≡◌, ℕ, Bool, true, T, List, [], ◌∷◌, ℤ}
 use Rattle.line_format.specs.Columns.{number_columns, signed_columns, date_columns, blank_columns, number_fits, signed_fits, date_fits}
-use Rattle.terms.specs.Letters.{letter_of}
+use Rattle.terms.specs.ReadingType.{letter_of}
 use Rattle.terms.specs.declared.reading_type.ReadingType.{ReadingType}
 
 -- a number, a number that may be negative, a date, an unused field; a type of reading, no letter

@@ -1,6 +1,6 @@
 -- How a line is read, and where it is at fault.
 use Rattle.std.specs.Prelude.{◌≡◌, ◌≢◌, ℕ, ◌+◌, ◌-◌, min, Bool, true, false, ◌&&◌, if◌then◌else◌, T, ◌⊎◌, List, length, take, Some, None, Ok, Err, Result, ◌==◌, slice_index}
-use Rattle.terms.specs.Numbers.{number_of}
+use Rattle.terms.specs.Refusal.{number_of}
 use Rattle.line_format.specs.Fault.{on_line}
 use Rattle.line_format.specs.Limits.{verdict}
 use Rattle.line_format.specs.Record.{contents, tag_of, record_fits, record_bytes}

@@ -2,7 +2,7 @@
 use Rattle.std.specs.Prelude.{◌≡◌, ℕ, ◌<◌, ◌≤◌, Bool, true, ◌&&◌, if◌then◌else◌, T, List, [], ◌∷◌, ◌++◌, length, drop, Some, None, Option, Ok, Err, Result}
 use Rattle.std.specs.List.{flat_map}
 use Rattle.terms.specs.Answers.{Answers}
-use Rattle.terms.specs.Numbers.{number_of}
+use Rattle.terms.specs.Refusal.{number_of}
 use Rattle.terms.specs.declared.reading_type.ReadingType.{ReadingType}
 use Rattle.terms.specs.declared.refusal.Refusal.{Refusal}
 use Rattle.line_format.specs.Kind.{Kind, Value, fits, columns, number, signed, date, blank, reading_type, no_letter}

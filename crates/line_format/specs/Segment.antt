@@ -1,6 +1,6 @@
 -- The segments of a line behind its tag, and the leftmost at fault.
 use Rattle.std.specs.Prelude.{◌≡◌, ◌≢◌, ℕ, ◌+◌, T, List, [], ◌∷◌, take, drop, Ok, Err, Result}
-use Rattle.terms.specs.Numbers.{number_of}
+use Rattle.terms.specs.Refusal.{number_of}
 use Rattle.line_format.specs.Kind.{Kind, Value, HasValue, width, fits, columns, blank, no_letter}
 use Rattle.line_format.specs.Record.{Content, content}
 use Rattle.line_format.specs.Tag.{tag_bytes}

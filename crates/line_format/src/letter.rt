@@ -1,5 +1,5 @@
 ghost use Rattle.std.specs.Prelude.{◌≡◌, true, [], ◌∷◌};
-ghost use Rattle.terms.specs.Letters as letters;
+ghost use Rattle.terms.specs.ReadingType as letters;
 ghost use Rattle.line_format.specs.Columns.{InvertsWriting};
 
 use terms::{ReadingType, Refusal};

@@ -1,6 +1,6 @@
 ghost use Rattle.std.specs.Prelude.{◌≡◌, ◌+◌, ◌&&◌, Some, nat_le};
 ghost use Rattle.calendar.specs.Digits.{is_date};
-ghost use Rattle.terms.specs.Numbers.{number_of};
+ghost use Rattle.terms.specs.Refusal.{number_of};
 ghost use Rattle.line_format.specs.Limits.{ends_in_time, dates_exist, field_refusal, verdict, numbers_within};
 ghost use Rattle.line_format.specs.Fault.{number_and_column};
 ghost use Rattle.line_format.specs.Segment.{bytes_before};

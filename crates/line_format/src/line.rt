@@ -1,6 +1,6 @@
 ghost use Rattle.std.specs.Prelude.{◌≡◌, ℕ, true, false, IfErr, MatchResult};
 ghost use Rattle.terms.specs.Answers.{Answers};
-ghost use Rattle.terms.specs.Numbers.{number_of};
+ghost use Rattle.terms.specs.Refusal.{number_of};
 ghost use Rattle.line_format.specs.Kind.{reading_type, no_letter};
 ghost use Rattle.line_format.specs.Line.{ChecksRecord, ChecksLine, ReadsContents, ReadsBack, ReadsLine, IsAtFault, WritesAgain, ends_with_line_feed, is_line, column_past_end};
 ghost use Rattle.line_format.specs.Segment.{segment, bytes_before, ReadsSegment, ReadsSegmentAs, ReadsUnusedRest, ReadsTag, ReadsThree};

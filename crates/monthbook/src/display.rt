@@ -1,7 +1,7 @@
 // Calls and answers in words.
 use book::Answer;
 use rules::{Call, Delivery};
-use sheet::DayFigures;
+use sheet::{Account};
 use std::fmt;
 use terms::Refusal;
 
@@ -95,11 +95,11 @@ impl fmt::Display for AnswerShown {
 
 // The six numbers of a day.
 #[derive(Clone, Copy, PartialEq, Eq, Debug)]
-pub(crate) struct DayShown(pub DayFigures);
+pub(crate) struct DayShown(pub Account);
 
 impl fmt::Display for DayShown {
     fn fmt<W: fmt::Write>(&self, f: &mut fmt::Formatter<W>) -> fmt::Result {
-        let DayFigures {
+        let Account {
             load,
             supplied,
             generated,

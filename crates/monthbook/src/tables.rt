@@ -4,7 +4,7 @@ use super::display::{AnswerShown, CallShown, DateShown};
 use super::month::{DAYS, FIRST, LAST, POINTS};
 use book::Answer;
 use rules::Call;
-use sheet::DayFigures;
+use sheet::{Account};
 use std::io;
 use terms::Refusal;
 
@@ -42,7 +42,7 @@ pub(crate) fn print_sheet(rt: &HostRuntime, figures: &[u64]) -> io::Result<()> {
 // The account of a day and both retailers' sums.
 #[derive(Clone, Copy, PartialEq, Eq, Debug)]
 struct Account {
-    figures: DayFigures,
+    figures: Account,
     northern: u64,
     southern: u64,
 }
@@ -82,7 +82,7 @@ pub(crate) fn print_days(rt: &HostRuntime, answers: &[Result<Answer, Refusal>]) 
 }
 
 fn print_account(rt: &HostRuntime, day: DateShown, account: Account) -> io::Result<()> {
-    let DayFigures {
+    let Account {
         load,
         supplied,
         generated,

@@ -6,14 +6,11 @@ use Rattle.std.proofs.lemmas.Bool.{cond_both, eqb-true, false≢true, true≢fal
 use Rattle.std.proofs.lemmas.Bool.Decides.{nat_tests}
 use Rattle.std.proofs.lemmas.Grind.{get_or-set_at}
 use Rattle.std.proofs.lemmas.List.{get_or-set_other, length-replicate, length-set}
-use Rattle.estimates.specs.Factors.{entry_within, weather_figure}
-use Rattle.estimates.specs.WeatherFigures.{figures, figures_under}
+use Rattle.estimates.specs.Factors.{weather_figure, factors_entry_within}
 use Rattle.estimates.specs.declared.by_weather.ByWeather.{ByWeather}
 use Rattle.estimates.specs.declared.factors.Factors as weather
-use Rattle.estimates.specs.WeatherLaws.{bounded_under}
 use Rattle.estimators.specs.Entries.{entry_numbered}
-use Rattle.estimators.specs.Meaning.{Bounded, BoundedUnder, weather_within}
-use Rattle.line_format.specs.Judging.{verdict}
+use Rattle.estimators.specs.Meaning.{weather_within, IsBounded, IsBoundedUnder}
 use Rattle.line_format.specs.declared.record.Factors.{Factors}
 use Rattle.line_format.specs.declared.record.Record.TheVariants as of
 use Rattle.std.specs.Option.{option_map}
@@ -25,13 +22,15 @@ use Rattle.report.specs.declared.stage.Stage.TheVariants as stage
 use Rattle.report.specs.Intake.{AcceptsRecord, HasFactors, is_turn_at}
 use Rattle.report.specs.IntakeHistory.{largest_book, no_figure, opened, unopened, weather_meaning}
 use Rattle.report.specs.RecordRefusal.{IsWithinLimits, placed_refusal}
+use Rattle.estimates.specs.ByWeather.{weather_figures, weather_figures_under, weather_figures_bounded_under}
+use Rattle.line_format.specs.Limits.{verdict}
 
 -- the factors that a record enters
 abbrev pub factors_in : Factors → weather.Factors
 factors_in f = record { base_load = f.base_load; sensitivity = f.sensitivity }
 
 -- factors within the limits of lines are within those of the estimator
-pub factors_fit : (f : Factors) → verdict largest_book (of.Factors f) ≡ None → entry_within f.point (factors_in f) ≡ true
+pub factors_fit : (f : Factors) → verdict largest_book (of.Factors f) ≡ None → factors_entry_within f.point (factors_in f) ≡ true
 factors_fit f within = grind (arith, nat_tests)
 
 pub point_fits : (f : Factors) → verdict largest_book (of.Factors f) ≡ None → (1 ≤ f.point) × (f.point ≤ 32)
@@ -61,7 +60,7 @@ module _ {X : Type 0} (table : List (Option X)) (last n p : ℕ) (x : X) where
 
 -- factors that are entered are before the others
 pub factors_stand : (fs : List Factors) (f : Factors) (w w' : ByWeather) → verdict largest_book (of.Factors f) ≡ None
-    → w'.factors ≡ cond (entry_within f.point (factors_in f)) (set w.factors (f.point - 1) (Some (factors_in f))) w.factors → w'.counts ≡ w.counts → HasFactors fs w → HasFactors (f ∷ fs) w'
+    → w'.factors ≡ cond (factors_entry_within f.point (factors_in f)) (set w.factors (f.point - 1) (Some (factors_in f))) w.factors → w'.counts ≡ w.counts → HasFactors fs w → HasFactors (f ∷ fs) w'
 factors_stand fs f w w' within factors counts stands =
     let fits = factors_fit f within in
     let point = point_fits f within in
@@ -73,26 +72,26 @@ factors_stand fs f w w' within factors counts stands =
     }
 
 -- the estimator means what the factors mean
-pub weather_stands : (fs : List Factors) (w : ByWeather) → HasFactors fs w → (count p d : ℕ) → figures_under w count p d ≡ weather_meaning fs count p d
+pub weather_stands : (fs : List Factors) (w : ByWeather) → HasFactors fs w → (count p d : ℕ) → weather_figures_under w count p d ≡ weather_meaning fs count p d
 weather_stands fs w stands count p d = ap (λ o. cond (weather_within d count) (option_map (λ f. weather_figure f count) o) None) (stands.factors p)
 
-pub none_yet : (fs : List Factors) (w : ByWeather) → HasFactors fs w → (p d : ℕ) → figures w p d ≡ None
-none_yet fs w stands p d = ap (option_and_then (λ count. figures_under w count p d)) (stands.counts d)
+pub none_yet : (fs : List Factors) (w : ByWeather) → HasFactors fs w → (p d : ℕ) → weather_figures w p d ≡ None
+none_yet fs w stands p d = ap (option_and_then (λ count. weather_figures_under w count p d)) (stands.counts d)
 
-pub weather_bounded : (fs : List Factors) (w : ByWeather) → HasFactors fs w → BoundedUnder (weather_meaning fs)
-weather_bounded fs w stands count p d x is = bounded_under w count p d x (weather_stands fs w stands count p d ∙ is)
+pub weather_bounded : (fs : List Factors) (w : ByWeather) → HasFactors fs w → IsBoundedUnder (weather_meaning fs)
+weather_bounded fs w stands count p d x is = weather_figures_bounded_under w count p d x (weather_stands fs w stands count p d ∙ is)
 
-pub none_bounded : Bounded no_figure
+pub none_bounded : IsBounded no_figure
 none_bounded p d x is = absurd (cc)
 
-accepted_none : (x : Factors) (r : Result (Unit {0}) Refusal) (a : Result (Unit {0}) Fault) → Answers r (entry_within x.point (factors_in x)) tt 3 → entry_within x.point (factors_in x) ≡ true → is_ok a ≡ is_ok r → placed_refusal a ≡ None
+accepted_none : (x : Factors) (r : Result (Unit {0}) Refusal) (a : Result (Unit {0}) Fault) → Answers r (factors_entry_within x.point (factors_in x)) tt 3 → factors_entry_within x.point (factors_in x) ≡ true → is_ok a ≡ is_ok r → placed_refusal a ≡ None
 accepted_none x (Ok u) (Ok v) answer fits same = refl
 accepted_none x (Ok u) (Err f) answer fits same = absurd (true≢false (sym same))
 accepted_none x (Err e) a answer fits same = absurd (subst (λ b. Answers {X = Unit {0}} (Err e) b tt 3) fits answer)
 
 -- a record of factors that is within its limits and in its turn is before the others
 pub factors_entered : (f : Factors) (s : Stage) (w w' : ByWeather) (r : Result (Unit {0}) Refusal) (a : Result (Unit {0}) Fault) → IsWithinLimits (of.Factors f) → is_turn_at s (of.Factors f) ≡ true
-    → Answers r (entry_within f.point (factors_in f)) tt 3 → w'.factors ≡ cond (entry_within f.point (factors_in f)) (set w.factors (f.point - 1) (Some (factors_in f))) w.factors → w'.counts ≡ w.counts → is_ok a ≡ is_ok r
+    → Answers r (factors_entry_within f.point (factors_in f)) tt 3 → w'.factors ≡ cond (factors_entry_within f.point (factors_in f)) (set w.factors (f.point - 1) (Some (factors_in f))) w.factors → w'.counts ≡ w.counts → is_ok a ≡ is_ok r
     → AcceptsRecord (of.Factors f) a s w s w'
 factors_entered f (stage.Unopened lists) w w' r a within turn answer factors counts same (unopened fs) stands = (accepted_none f r a answer (factors_fit f within) same, (stands.0, factors_stand fs f w w' within factors counts stands.1))
 factors_entered f (stage.Unopened lists) w w' r a within turn answer factors counts same (opened s h) stands = absurd stands

@@ -7,7 +7,7 @@ use Rattle.std.specs.Io.KnownBytes.{Appends}
 use Rattle.std.specs.Option.{option_map}
 use Rattle.report.proofs.LineCuttingLemmas.{unended_line_byte, unended_line_closed, ended_lines_byte, ended_lines_closed, lines_with_rest, lines_without_rest}
 use Rattle.report.proofs.LineStartLemmas.{fault_of_start, line_start_more, line_start_empty, written_by_start}
-use Rattle.line_format.specs.declared.checked_line.LineFault.{LineFault}
+use Rattle.line_format.specs.declared.fault.LineFault.{LineFault}
 use Rattle.report.specs.declared.intake.Intake.{Intake}
 use Rattle.report.specs.declared.feed.Feed.{Feed}
 use Rattle.report.specs.Feed.{EndsInput, EndsLine, IsFeedOf, TakesBytes, WritesDayLines}

@@ -1,14 +1,9 @@
 -- One line: what it says, and how that is answered. Assumes nothing.
 use Rattle.std.proofs.Common.{◌≡◌, ℕ, ◌+◌, ◌≤◌, min, Bool, true, false, cond, List, [], ◌∷◌, Some, None, Ok, Err, Option, Result, sym, refl, ap, ◌∙◌, subst, arith}
 use Rattle.std.specs.Option.{option_map, option_or, unwrap_or}
-use Rattle.line_format.specs.Dates.{dates_exist}
-use Rattle.line_format.specs.Judging.{leftmost, refused_by, verdict}
-use Rattle.line_format.specs.Lines.{placed_on}
-use Rattle.line_format.specs.Numbers.{numbers_within}
-use Rattle.line_format.specs.Reading.{LineRead}
 use Rattle.line_format.specs.declared.fault.Fault.{Fault}
 use Rattle.line_format.specs.declared.record.Record.{Record}
-use Rattle.terms.specs.Numbers.{number_of, day_named, layer_number, layer_of}
+use Rattle.terms.specs.Refusal.{number_of, layer_number, layer_of, date_named}
 use Rattle.terms.specs.declared.refusal.Refusal.{Refusal}
 use Rattle.terms.specs.declared.refusal.Refusal.TheVariants.{MalformedLine, OutOfTurn, BeyondLimits, NoSuchDate, OutsideBook, NegativeEnergy, PointNotEnrolled, PointEnrolledAlready, StartIsNoMark, EndNotAllowed, CoveredDayWithoutLoad, SoftOverFirm, ReadingPlacesFull, AskedDayWithoutLoad, ListTooShort}
 use Rattle.report.specs.declared.intake.Intake.{Intake}
@@ -19,9 +14,12 @@ use Rattle.report.specs.Intake.{EntersLine, EntersRecord, IsStageOf, is_turn_at}
 use Rattle.report.specs.IntakeHistory.{IntakeHistory, history_with_record, largest_book, opened, unopened}
 use Rattle.report.specs.LineContent.{last_line_number, layer_by_number, malformed_at, record_is, reported_answer, reported_refusal}
 use Rattle.report.specs.RecordRefusal.{PlacedRefusal, history_unless_refused, is_in_turn, out_of_turn, placed_refusal, refusal_by_book}
+use Rattle.line_format.specs.Limits.{dates_exist, leftmost_refusal, field_refusal, verdict, numbers_within}
+use Rattle.line_format.specs.Fault.{on_line}
+use Rattle.line_format.specs.Line.{ReadsLine}
 
 -- the first four refusals name no day
-pub names_none : (e : Refusal) (n : ℕ) → number_of e ≡ n → n ≤ 4 → day_named e ≡ None
+pub names_none : (e : Refusal) (n : ℕ) → number_of e ≡ n → n ≤ 4 → date_named e ≡ None
 names_none MalformedLine n is few = refl
 names_none OutOfTurn n is few = refl
 names_none BeyondLimits n is few = refl
@@ -57,14 +55,14 @@ layers (AskedDayWithoutLoad date) = refl
 layers ListTooShort = refl
 
 -- a refusal with the number of its line, in the words of the report
-pub fail_placed : (k n : ℕ) (r : Result (Unit {0}) Fault) → n ≡ min (k + 1) last_line_number → reported_answer (placed_on n r) ≡ option_map (reported_refusal k) (placed_refusal r)
+pub fail_placed : (k n : ℕ) (r : Result (Unit {0}) Fault) → n ≡ min (k + 1) last_line_number → reported_answer (on_line n r) ≡ option_map (reported_refusal k) (placed_refusal r)
 fail_placed k n (Ok x) is = refl
 fail_placed k n (Err f) is = λ i. Some (record {
   line = is i;
   layer = layers f.refusal i;
   number = number_of f.refusal;
   column = f.column;
-  date = unwrap_or (day_named f.refusal) 0;
+  date = unwrap_or (date_named f.refusal) 0;
 })
 
 -- a refusal that names no day
@@ -72,7 +70,7 @@ refused_plainly : (f : Fault) (n : ℕ) → number_of f.refusal ≡ n → n ≤ 
 refused_plainly f n is few = λ i. Some (record { number = is i; column = f.column; date = names_none f.refusal n is few i })
 
 -- a malformed line leaves the history
-pub malformed_enters : (bytes : List ℕ) (f : Fault) (intake : Intake) → LineRead bytes (Err f) → EntersLine bytes (Err f) intake intake
+pub malformed_enters : (bytes : List ℕ) (f : Fault) (intake : Intake) → ReadsLine bytes (Err f) → EntersLine bytes (Err f) intake intake
 malformed_enters bytes f intake read t stands = (malformed_at f.column, read.1, refused_plainly f 1 read.0 (omega arith), stands)
 
 -- a refusal by the limits decides before a later one
@@ -93,7 +91,7 @@ turn_decides : (b : Bool) (later : Option PlacedRefusal) (r : PlacedRefusal) (t 
 turn_decides true later r t w is = absurd (cc)
 turn_decides false later r t w is = (is, refl)
 
-pub turn_enters : (bytes : List ℕ) (x : Record) (f : Fault) (intake : Intake) → LineRead bytes (Ok x)
+pub turn_enters : (bytes : List ℕ) (x : Record) (f : Fault) (intake : Intake) → ReadsLine bytes (Ok x)
     → placed_refusal {X = Unit {0}} (Err f) ≡ cond (is_turn_at intake.stage x) None (Some out_of_turn) → EntersLine bytes (Err f) intake intake
 turn_enters bytes x f intake read turn t stands =
     let told = turn_decides (is_in_turn t x) (limits_first (verdict largest_book x) (refusal_by_book t x)) _ t (history_with_record t x) (turn ∙ ap (λ b. cond b None (Some out_of_turn)) (sym (turn_at t intake.stage intake.weather x stands))) in
@@ -108,7 +106,7 @@ abbrev pub number_in : Option (ℕ × ℕ) → ℕ
 number_in None = 0
 number_in (Some at) = at.0
 
-leftmost_number : (n c : ℕ) (fields : List Bool) (m d : ℕ) → leftmost n c fields ≡ Some (m, d) → m ≡ n
+leftmost_number : (n c : ℕ) (fields : List Bool) (m d : ℕ) → leftmost_refusal n c fields ≡ Some (m, d) → m ≡ n
 leftmost_number n c [] m d is = absurd (cc)
 leftmost_number n c (true ∷ bs) m d is = leftmost_number n (c + 10) bs m d is
 leftmost_number n c (false ∷ bs) m d is = sym (ap number_in is)
@@ -119,13 +117,13 @@ either_number (Some p) b m d three four is = let same : m ≡ 3 = three m d is i
 
 verdict_number : (x : Record) (m d : ℕ) → verdict largest_book x ≡ Some (m, d) → m ≤ 4
 verdict_number x m d is =
-    either_number (refused_by 3 (numbers_within largest_book x)) (refused_by 4 (dates_exist x)) m d (leftmost_number 3 5 (numbers_within largest_book x)) (leftmost_number 4 5 (dates_exist x)) is
+    either_number (field_refusal 3 (numbers_within largest_book x)) (field_refusal 4 (dates_exist x)) m d (leftmost_number 3 5 (numbers_within largest_book x)) (leftmost_number 4 5 (dates_exist x)) is
 
 limits_decide : (b : Bool) (v : Option (ℕ × ℕ)) (later : Option PlacedRefusal) (n c : ℕ) (t w : IntakeHistory) → b ≡ true → v ≡ Some (n, c)
     → (cond b (limits_first v later) (Some out_of_turn) ≡ Some (record { number = n; column = c; date = None })) × (history_unless_refused (cond b (limits_first v later) (Some out_of_turn)) t w ≡ t)
 limits_decide b v later n c t w turn is = rw (turn, is) (refl, refl)
 
-pub limits_enter : (bytes : List ℕ) (x : Record) (f : Fault) (intake : Intake) → LineRead bytes (Ok x)
+pub limits_enter : (bytes : List ℕ) (x : Record) (f : Fault) (intake : Intake) → ReadsLine bytes (Ok x)
     → is_turn_at intake.stage x ≡ true
     → Some (number_of f.refusal, f.column) ≡ verdict largest_book x → EntersLine bytes (Err f) intake intake
 limits_enter bytes x f intake read turn refused t stands =
@@ -136,7 +134,7 @@ limits_enter bytes x f intake read turn refused t stands =
 book_decides : (b : Bool) (v : Option (ℕ × ℕ)) (later : Option PlacedRefusal) → b ≡ true → v ≡ None → later ≡ cond b (limits_first v later) (Some out_of_turn)
 book_decides b v later turn none = rw (turn, none)
 
-pub record_enters : (bytes : List ℕ) (x : Record) (r : Result (Unit {0}) Fault) (intake new : Intake) → LineRead bytes (Ok x)
+pub record_enters : (bytes : List ℕ) (x : Record) (r : Result (Unit {0}) Fault) (intake new : Intake) → ReadsLine bytes (Ok x)
     → is_turn_at intake.stage x ≡ true → None ≡ verdict largest_book x
     → EntersRecord x r intake new → EntersLine bytes r intake new
 record_enters bytes x r intake new read turn within accepts t stands =

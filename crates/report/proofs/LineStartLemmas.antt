@@ -3,12 +3,11 @@ use Rattle.std.proofs.Common.{◌≡◌, ℕ, suc, ◌+◌, ◌-◌, ◌<◌, �
 use Rattle.std.proofs.lemmas.Bool.Decides.{nat_tests}
 use Rattle.std.proofs.lemmas.List.{length_push, length-take, length-take-le, take_all, take-take, take-append-le}
 use Rattle.std.proofs.lemmas.Bool.{and_parts, and_left, both_ways, cases_lt, eqb-true, ne_eqb}
-use Rattle.line_format.specs.Reading.{AtFault, wrong_length, unknown_tag, wrong_part}
-use Rattle.line_format.specs.Whole.{whole, fed, past_end}
 use Rattle.line_format.proofs.OneWriting.{written_whole}
-use Rattle.line_format.specs.Records.{record_fits, written}
 use Rattle.line_format.specs.declared.record.Record.{Record}
 use Rattle.report.specs.LineStart.{line_start}
+use Rattle.line_format.specs.Line.{IsAtFault, wrong_length, unknown_tag, wrong_part, is_line, ends_with_line_feed, column_past_end}
+use Rattle.line_format.specs.Record.{record_fits, record_bytes}
 
 -- a line of 47 bytes or fewer is its start
 line_start_whole : (line : List ℕ) → length line ≤ 47 → line_start line ≡ line
@@ -30,40 +29,40 @@ line_start_empty [] = refl
 line_start_empty (b ∷ bs) = ne_eqb (suc (length (take 46 bs))) 0 (λ e. omega arith) ∙ sym (ne_eqb (suc (length bs)) 0 (λ e. omega arith))
 
 -- a longer line is no whole one, and at fault at column 46
-not_whole : (bytes : List ℕ) → 46 < length bytes → whole bytes ≡ false
-not_whole bytes h = and_left (eqb (length bytes) 46) (fed bytes) (ne_eqb (length bytes) 46 (λ e. omega arith))
+not_whole : (bytes : List ℕ) → 46 < length bytes → is_line bytes ≡ false
+not_whole bytes h = and_left (eqb (length bytes) 46) (ends_with_line_feed bytes) (ne_eqb (length bytes) 46 (λ e. omega arith))
 
 past_long : (f : Bool) (n : ℕ) → 46 < n → min (n - cond f 1 0) 45 + 1 ≡ 46
 past_long true n h = omega arith
 past_long false n h = omega arith
 
-past_end_long : (bytes : List ℕ) → 46 < length bytes → past_end bytes ≡ 46
-past_end_long bytes h = past_long (fed bytes) (length bytes) h
+past_end_long : (bytes : List ℕ) → 46 < length bytes → column_past_end bytes ≡ 46
+past_end_long bytes h = past_long (ends_with_line_feed bytes) (length bytes) h
 
-fault_long : (line : List ℕ) (c : ℕ) → 47 < length line → AtFault (line_start line) c → AtFault line c
+fault_long : (line : List ℕ) (c : ℕ) → 47 < length line → IsAtFault (line_start line) c → IsAtFault line c
 fault_long line c h (wrong_length w e) =
     let all : length (take 47 line) ≡ 47 = length-take-le 47 line (omega arith) in
     wrong_length (not_whole line (omega arith)) (e ∙ past_end_long (line_start line) (omega arith) ∙ sym (past_end_long line (omega arith)))
 fault_long line c h (unknown_tag w n e) =
     let all : length (take 47 line) ≡ 47 = length-take-le 47 line (omega arith) in
-    absurd (both_ways (whole (line_start line)) (not_whole (line_start line) (omega arith)) w)
+    absurd (both_ways (is_line (line_start line)) (not_whole (line_start line) (omega arith)) w)
 fault_long line c h (wrong_part t w tag l) =
     let all : length (take 47 line) ≡ 47 = length-take-le 47 line (omega arith) in
-    absurd (both_ways (whole (line_start line)) (not_whole (line_start line) (omega arith)) w)
+    absurd (both_ways (is_line (line_start line)) (not_whole (line_start line) (omega arith)) w)
 
 -- the column at fault in the start is that of the line
-pub fault_of_start : (line : List ℕ) (c : ℕ) → AtFault (line_start line) c → AtFault line c
+pub fault_of_start : (line : List ℕ) (c : ℕ) → IsAtFault (line_start line) c → IsAtFault line c
 fault_of_start line c at_fault =
     ⊎_elim
     (λ long. fault_long line c long at_fault)
-    (λ short. subst (λ bs. AtFault bs c) (line_start_whole line short) at_fault)
+    (λ short. subst (λ bs. IsAtFault bs c) (line_start_whole line short) at_fault)
     (cases_lt 47 (length line))
 
 -- where the start is the writing of a record, so is the line
-pub written_by_start : (line : List ℕ) (x : Record) → T (record_fits x) → line_start line ≡ written x → line ≡ written x
+pub written_by_start : (line : List ℕ) (x : Record) → T (record_fits x) → line_start line ≡ record_bytes x → line ≡ record_bytes x
 written_by_start line x fits e =
-    let parts = and_parts (eqb (length (written x)) 46) (fed (written x)) (written_whole x fits) in
-    let long : length (written x) ≡ 46 = eqb-true _ _ parts.0 in
+    let parts = and_parts (eqb (length (record_bytes x)) 46) (ends_with_line_feed (record_bytes x)) (written_whole x fits) in
+    let long : length (record_bytes x) ≡ 46 = eqb-true _ _ parts.0 in
     let same : length (take 47 line) ≡ 46 = ap length e ∙ long in
     let counted = length-take 47 line in
     sym (line_start_whole line (omega arith)) ∙ e

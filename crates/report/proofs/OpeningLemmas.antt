@@ -1,21 +1,16 @@
 -- A book that a line opens. Assumes nothing.
 use Rattle.std.proofs.Common.{◌≡◌, ℕ, ◌+◌, ◌-◌, ◌*◌, ◌<◌, ◌≤◌, Bool, true, false, cond, not, leb, List, [], Some, None, Ok, Option, Result, vec_len, refl, ap, ◌∙◌, subst, arith}
 use Rattle.std.proofs.lemmas.Bool.Decides.{nat_tests}
-use Rattle.book.specs.Follows.{Beyond, Follows}
-use Rattle.book.specs.Opened.{OpenedAs, opening_refusal, rest_of, setting, short_lists}
+use Rattle.book.specs.Opened.{setting}
 use Rattle.book.specs.declared.book.Book.{Book}
-use Rattle.book.specs.declared.lists.Lists.{Lists}
-use Rattle.estimates.specs.WeatherFigures.{figures, figures_under}
+use Rattle.book.specs.declared.book.Lists.{Lists}
 use Rattle.estimates.specs.declared.by_weather.ByWeather.{ByWeather}
 use Rattle.calendar.specs.Digits.{day_number_of, is_date}
 use Rattle.calendar.specs.Gregorian.{days_in_all}
 use Rattle.estimators.specs.Meaning.{Meaning}
 use Rattle.rules.specs.History.{History, Setting}
-use Rattle.ledger.specs.Opened.{beyond}
 use Rattle.ledger.specs.declared.opening.OpeningRequest.{OpeningRequest}
-use Rattle.line_format.proofs.Ends.{last_end}
-use Rattle.line_format.specs.Dates.{ends_in_time}
-use Rattle.line_format.specs.Judging.{verdict}
+use Rattle.line_format.proofs.BookEnds.{last_end}
 use Rattle.line_format.specs.declared.record.Factors.{Factors}
 use Rattle.line_format.specs.declared.record.Opening.{Opening}
 use Rattle.line_format.specs.declared.record.Record.TheVariants as of
@@ -24,6 +19,12 @@ use Rattle.terms.specs.declared.refusal.Refusal.{Refusal}
 use Rattle.report.proofs.FactorsLemmas.{none_bounded, none_yet, weather_bounded, weather_stands}
 use Rattle.report.specs.Intake.{HasFactors, HasRoom, IsOpenedBookOf}
 use Rattle.report.specs.IntakeHistory.{largest_book, no_figure, setting_of_opening, weather_meaning}
+use Rattle.estimates.specs.ByWeather.{weather_figures, weather_figures_under}
+use Rattle.ledger.specs.Opening.{is_opening_beyond_limits}
+use Rattle.line_format.specs.Limits.{ends_in_time, verdict}
+use Rattle.book.specs.Case.{Beyond}
+use Rattle.book.specs.Book.{IsBookOf}
+use Rattle.book.specs.Opening.{OpensBook, book_opening_refusal, rest_of, are_book_lists_short}
 
 -- what a book is asked to open with
 abbrev pub request : Opening → OpeningRequest
@@ -60,10 +61,10 @@ cond_none false n o none = (refl, none)
 none_cond : (b : Bool) (n : ℕ) (o : Option ℕ) → b ≡ false → o ≡ None → cond b (Some n) o ≡ None
 none_cond b n o fails none = rw (fails, none)
 
-not_beyond : (o : Opening) → Within o → beyond (request o) ≡ false
+not_beyond : (o : Opening) → Within o → is_opening_beyond_limits (request o) ≡ false
 not_beyond o w = let real = w.real in let some = w.some in let few = w.few in let unaccounted = w.unaccounted in let in_time = w.in_time in grind (arith, nat_tests)
 
-long_lists : (o : Opening) (lists : Lists) → Within o → HasRoom lists → short_lists (request o) lists ≡ false
+long_lists : (o : Opening) (lists : Lists) → Within o → HasRoom lists → are_book_lists_short (request o) lists ≡ false
 long_lists o lists w room =
     let few = w.few in
     let sheet : o.days * 32 ≤ vec_len lists.sheet = omega (arith, room.sheet) in
@@ -72,21 +73,21 @@ long_lists o lists w room =
     grind (arith, nat_tests)
 
 -- where there is room such an opening is not refused
-opens_within : (o : Opening) (lists : Lists) → Within o → HasRoom lists → opening_refusal (request o) lists ≡ None
+opens_within : (o : Opening) (lists : Lists) → Within o → HasRoom lists → book_opening_refusal (request o) lists ≡ None
 opens_within o lists w room =
-    none_cond (beyond (request o)) 3 _ (not_beyond o w)
-    (none_cond (not (is_date o.first_date)) 4 _ (ap not w.real) (none_cond (short_lists (request o) lists) 15 None (long_lists o lists w room) refl))
+    none_cond (is_opening_beyond_limits (request o)) 3 _ (not_beyond o w)
+    (none_cond (not (is_date o.first_date)) 4 _ (ap not w.real) (none_cond (are_book_lists_short (request o) lists) 15 None (long_lists o lists w room) refl))
 
-pub never_refused : (o : Opening) (lists : Lists) (n : ℕ) → verdict largest_book (of.Opening o) ≡ None → opening_refusal (request o) lists ≡ Some n → HasRoom lists → ⊥
+pub never_refused : (o : Opening) (lists : Lists) (n : ℕ) → verdict largest_book (of.Opening o) ≡ None → book_opening_refusal (request o) lists ≡ Some n → HasRoom lists → ⊥
 never_refused o lists n none refused room = let opens = opens_within o lists (within o none) room in absurd (cc)
 
 -- a book follows what it followed, beside an estimator that means the same
-pub same_meaning : {s : Setting} {rest : Beyond} {h : History} {b : Book} {m m' : Meaning} {u u' : ℕ → Meaning} → ((p d : ℕ) → m' p d ≡ m p d) → ((count p d : ℕ) → u' count p d ≡ u count p d) → Follows s rest h b m u → Follows s rest h b m' u'
+pub same_meaning : {s : Setting} {rest : Beyond} {h : History} {b : Book} {m m' : Meaning} {u u' : ℕ → Meaning} → ((p d : ℕ) → m' p d ≡ m p d) → ((count p d : ℕ) → u' count p d ≡ u count p d) → IsBookOf s rest h b m u → IsBookOf s rest h b m' u'
 same_meaning same same_under f = record {
   lawful = f.lawful;
   limited = f.limited;
   entries = f.entries;
-  figures = f.figures;
+  weather_figures = f.figures;
   intervals = f.intervals;
   estimates = λ d p. same p (d + 1) ∙ f.estimates d p;
   weather = λ count p d. same_under count p d ∙ f.weather count p d;
@@ -105,13 +106,13 @@ setting_is fs o lists room = ap (λ (n : ℕ). record {
 }) room.readings
 
 -- what opens has no entry
-pub opened_stands : (o : Opening) (lists : Lists) (b : Book) (first : ℕ) → verdict largest_book (of.Opening o) ≡ None → OpenedAs (request o) lists (Ok b) → first ≡ day_number_of o.first_date
+pub opened_stands : (o : Opening) (lists : Lists) (b : Book) (first : ℕ) → verdict largest_book (of.Opening o) ≡ None → OpensBook (request o) lists (Ok b) → first ≡ day_number_of o.first_date
     → (fs : List Factors) (w : ByWeather) → HasRoom lists → HasFactors fs w → IsOpenedBookOf (setting_of_opening fs o) [] (record { book = b; days = record { first_day_number = first; count = o.days } }) w
 opened_stands o lists b first none opened is fs w room stands = record {
   days = record { first = is; days = refl; in_time = (within o none).in_time };
   rest = rest_of (request o) lists;
   follows =
-      subst (λ (s : Setting). Follows s (rest_of (request o) lists) [] b (figures w) (figures_under w)) (setting_is fs o lists room)
+      subst (λ (s : Setting). IsBookOf s (rest_of (request o) lists) [] b (weather_figures w) (weather_figures_under w)) (setting_is fs o lists room)
       (same_meaning (none_yet fs w stands) (weather_stands fs w stands) (opened.1 no_figure (weather_meaning fs) none_bounded (weather_bounded fs w stands)));
 }
 

@@ -1,19 +1,16 @@
 -- An intake holds what its lines amount to.
 use Rattle.std.specs.Prelude.{◌≡◌, ℕ, ◌+◌, ◌*◌, ◌<◌, ◌≤◌, min, Bool, false, not, List, [], length, None, Ok, Err, Result, vec_len}
 use Rattle.std.specs.Option.{option_map}
-use Rattle.book.specs.Follows.{Beyond, Follows}
-use Rattle.book.specs.declared.lists.Lists.{Lists}
+use Rattle.book.specs.declared.book.Lists.{Lists}
 use Rattle.calendar.specs.Gregorian.{days_in_all}
-use Rattle.estimates.specs.WeatherFigures.{count_of, factors_of, figures, figures_under}
 use Rattle.estimates.specs.declared.by_weather.ByWeather.{ByWeather}
 use Rattle.estimators.specs.Limits.{last_point}
-use Rattle.ledger.specs.declared.open.Unopened.{Unopened}
-use Rattle.line_format.specs.declared.checked_line.LineFault.{LineFault}
+use Rattle.ledger.specs.declared.opening.Unopened.{Unopened}
+use Rattle.line_format.specs.declared.fault.LineFault.{LineFault}
 use Rattle.line_format.specs.declared.fault.Fault.{Fault}
 use Rattle.line_format.specs.declared.record.Factors.{Factors}
 use Rattle.line_format.specs.declared.record.Opening.{Opening}
 use Rattle.line_format.specs.declared.record.Record.{Record}
-use Rattle.rules.specs.Calls.{meters}
 use Rattle.rules.specs.History.{History, Setting}
 use Rattle.report.specs.IntakeHistory.{IntakeHistory, history_with_record, largest_book, latest_factors, opened, reading_places, setting_of_opening, unopened}
 use Rattle.report.specs.LineContent.{HasContent, LineContent, history_after_line, last_line_number, line_refusal, reported_answer, reported_refusal}
@@ -23,6 +20,10 @@ use Rattle.report.specs.declared.intake.Intake.{Intake}
 use Rattle.report.specs.declared.opened_book.OpenedBook.{OpenedBook}
 use Rattle.report.specs.declared.stage.Stage.{Stage}
 use Rattle.report.specs.declared.stage.Stage.TheVariants as stage
+use Rattle.allocation.specs.Loads.{meters}
+use Rattle.estimates.specs.ByWeather.{count_of, factors_of, weather_figures, weather_figures_under}
+use Rattle.book.specs.Case.{Beyond}
+use Rattle.book.specs.Book.{IsBookOf}
 
 -- lists in whose memory the largest book can be kept
 pub record HasRoom (lists : Lists) : Type 0 where
@@ -46,7 +47,7 @@ pub record IsDaysOf (s : Setting) (own : BookDays) : Type 0 where
 pub record IsOpenedBookOf (s : Setting) (h : History) (o : OpenedBook) (w : ByWeather) : Type 0 where
   pub days : IsDaysOf s o.days
   pub rest : Beyond
-  pub follows : Follows s rest h o.book (figures w) (figures_under w)
+  pub follows : IsBookOf s rest h o.book (weather_figures w) (weather_figures_under w)
 
 -- the stage and the estimator are as a history leaves them
 abbrev pub IsStageOf : IntakeHistory → Stage → ByWeather → Type 0

@@ -1,8 +1,7 @@
 -- What the lines accepted so far amount to.
 use Rattle.std.specs.Prelude.{ℕ, ◌+◌, List, [], ◌∷◌, if◌then◌else◌, Some, None, Option, ◌==◌, nat_lt}
 use Rattle.std.specs.Option.{option_map}
-use Rattle.book.specs.Replies.{after}
-use Rattle.calendar.specs.Digits.{date_numbered, day_number_of}
+use Rattle.calendar.specs.Digits.{day_number_of, date_of_day_number}
 use Rattle.estimates.specs.Factors.{weather_figure}
 use Rattle.estimates.specs.declared.factors.Factors as weather
 use Rattle.estimators.specs.Meaning.{Meaning, weather_within}
@@ -14,8 +13,9 @@ use Rattle.line_format.specs.declared.record.Record.TheVariants as of
 use Rattle.rules.specs.History.{History, Setting}
 use Rattle.rules.specs.declared.call.Call.{Call}
 use Rattle.rules.specs.declared.call.Call.TheVariants.{Enrol, EnterGate, EnterInterval, EnterDegreeDays, EnterReading}
-use Rattle.sheet.specs.Asking.{day_account}
 use Rattle.report.specs.declared.day_line.DayLine.{DayLine}
+use Rattle.sheet.specs.Account.{day_account}
+use Rattle.book.specs.Replies.{history_after_call}
 
 -- before the opening the factors, the newest first; from it on the setting of the book, and its
 -- history
@@ -87,7 +87,7 @@ call_of_record (of.Reading r) =
 -- a book's history with a call, if there is one
 abbrev pub history_with_call : Setting → History → Option Call → History
 history_with_call s h None = h
-history_with_call s h (Some c) = after s h c
+history_with_call s h (Some c) = history_after_call s h c
 
 -- with a record that is accepted: its factors before the others, a book opened, or the book's
 -- history with its call
@@ -106,7 +106,7 @@ day_count_of (opened s h) = s.days
 abbrev pub reported_book_day : Setting → History → ℕ → Option DayLine
 reported_book_day s h day =
     if nat_lt day s.days
-    then option_map (λ figures. record { date = date_numbered (s.first + day); figures = figures })
+    then option_map (λ figures. record { date = date_of_day_number (s.first + day); figures = figures })
     (day_account s h day)
     else None
 

@@ -1,15 +1,15 @@
 -- What a line says, and what is reported of it.
 use Rattle.std.specs.Prelude.{◌≡◌, ℕ, ◌+◌, min, T, List, [], ◌∷◌, Some, None, Ok, Err, Option, Result, ◌==◌, find}
 use Rattle.std.specs.Option.{option_map, unwrap_or}
-use Rattle.line_format.specs.Reading.{AtFault}
-use Rattle.line_format.specs.Records.{record_fits, written}
-use Rattle.line_format.specs.declared.checked_line.LineFault.{LineFault}
+use Rattle.line_format.specs.declared.fault.LineFault.{LineFault}
 use Rattle.line_format.specs.declared.record.Record.{Record}
-use Rattle.terms.specs.Numbers.{number_of, day_named, layer_of, layer_number}
+use Rattle.terms.specs.Refusal.{number_of, layer_of, layer_number, date_named}
 use Rattle.terms.specs.declared.refusal.Refusal.{Refusal}
 use Rattle.terms.specs.declared.refusal.Refusal.TheVariants.{MalformedLine, OutOfTurn, BeyondLimits, NoSuchDate, OutsideBook, NegativeEnergy, PointNotEnrolled, PointEnrolledAlready, StartIsNoMark, EndNotAllowed, CoveredDayWithoutLoad, SoftOverFirm, ReadingPlacesFull, AskedDayWithoutLoad, ListTooShort}
 use Rattle.report.specs.IntakeHistory.{IntakeHistory}
 use Rattle.report.specs.RecordRefusal.{PlacedRefusal, history_after_record, record_refusal}
+use Rattle.line_format.specs.Line.{IsAtFault}
+use Rattle.line_format.specs.Record.{record_fits, record_bytes}
 
 -- a record, or nothing, since the line is malformed at a column
 pub data LineContent : Type 0 where
@@ -18,8 +18,8 @@ pub data LineContent : Type 0 where
 
 -- bytes say the record that they are the writing of, or are malformed at the column at fault
 abbrev pub HasContent : List ℕ → LineContent → Type 0
-HasContent bytes (record_is x) = T (record_fits x) × (bytes ≡ written x)
-HasContent bytes (malformed_at c) = AtFault bytes c
+HasContent bytes (record_is x) = T (record_fits x) × (bytes ≡ record_bytes x)
+HasContent bytes (malformed_at c) = IsAtFault bytes c
 
 -- the refusal of what a line says: 1 where it is malformed, else that of its record
 abbrev pub line_refusal : IntakeHistory → LineContent → Option PlacedRefusal
@@ -77,5 +77,5 @@ reported_answer (Err f) = Some (record {
   layer = layer_number f.layer;
   number = number_of f.refusal;
   column = f.column;
-  date = unwrap_or (day_named f.refusal) 0;
+  date = unwrap_or (date_named f.refusal) 0;
 })

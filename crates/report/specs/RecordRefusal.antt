@@ -2,15 +2,15 @@
 use Rattle.std.specs.Prelude.{◌≡◌, ℕ, Bool, true, false, not, ◌&&◌, ◌||◌, if◌then◌else◌, Some, None, Ok, Err, Option, Result, ◌==◌}
 use Rattle.std.specs.Option.{option_map, option_or}
 use Rattle.calendar.specs.Digits.{is_date}
-use Rattle.line_format.specs.Judging.{verdict}
 use Rattle.line_format.specs.declared.fault.Fault.{Fault}
 use Rattle.line_format.specs.declared.record.Record.{Record}
 use Rattle.line_format.specs.declared.record.Record.TheVariants as of
-use Rattle.rules.specs.Calls.{in_book, named_by, refusal}
+use Rattle.rules.specs.Calls.{refusal, is_in_book, named_date}
 use Rattle.rules.specs.History.{History, Setting}
 use Rattle.rules.specs.declared.call.Call.{Call}
-use Rattle.terms.specs.Numbers.{number_of, day_named}
+use Rattle.terms.specs.Refusal.{number_of, date_named}
 use Rattle.report.specs.IntakeHistory.{IntakeHistory, call_of_record, history_with_record, largest_book, opened, unopened}
+use Rattle.line_format.specs.Limits.{verdict}
 
 -- a refusal with its place: its number, the first column of the leftmost field at fault, and the
 -- date of the day that it names, if it names one
@@ -23,7 +23,7 @@ pub record PlacedRefusal : Type 0 where
 abbrev pub placed_refusal : {X : Type 0} → Result X Fault → Option PlacedRefusal
 placed_refusal (Ok x) = None
 placed_refusal (Err f) =
-    Some (record { number = number_of f.refusal; column = f.column; date = day_named f.refusal })
+    Some (record { number = number_of f.refusal; column = f.column; date = date_named f.refusal })
 
 -- factors and the opening come before there is a book, all else after it
 abbrev pub is_before_book : Record → Bool
@@ -51,7 +51,7 @@ refusal_by_limits x =
 
 -- a date is a day of the book
 abbrev pub is_book_date : Setting → ℕ → Bool
-is_book_date s date = is_date date && in_book s 0 date
+is_book_date s date = is_date date && is_in_book s 0 date
 
 -- the first column of the leftmost date outside a book
 abbrev pub outside_column : Setting → Record → ℕ
@@ -70,7 +70,7 @@ book_column s x n =
 abbrev pub book_refusal : Setting → History → Record → Option Call → Option PlacedRefusal
 book_refusal s h x None = None
 book_refusal s h x (Some c) =
-    option_map (λ n. record { number = n; column = book_column s x n; date = named_by s h c n })
+    option_map (λ n. record { number = n; column = book_column s x n; date = named_date s h c n })
     (refusal s h c)
 
 -- the same of an intake's history; before there is a book it refuses nothing

@@ -2,9 +2,9 @@
 use Rattle.std.specs.Prelude.{ℕ, List, [], ◌∷◌, ◌++◌, codes, unwrap_or}
 use Rattle.std.specs.List.{flat_map}
 use Rattle.line_format.specs.Columns.{number_columns}
-use Rattle.line_format.specs.declared.checked_line.LineFault.{LineFault}
-use Rattle.sheet.specs.declared.day_figures.DayFigures.{DayFigures}
-use Rattle.terms.specs.Numbers.{number_of, layer_number, day_named}
+use Rattle.line_format.specs.declared.fault.LineFault.{LineFault}
+use Rattle.terms.specs.Refusal.{number_of, layer_number, date_named}
+use Rattle.sheet.specs.declared.account.Account.{Account}
 
 -- numbers one after another, each at the right of ten columns
 abbrev pub columns_of_numbers : List ℕ → List ℕ
@@ -20,10 +20,10 @@ fail_text line layer number column date =
 abbrev pub fault_text : LineFault → List ℕ
 fault_text f =
     fail_text f.line (layer_number f.layer) (number_of f.refusal) f.column
-    (unwrap_or (day_named f.refusal) 0)
+    (unwrap_or (date_named f.refusal) 0)
 
 -- a day with a load: its date and its account
-unfoldable pub day_text : ℕ → DayFigures → List ℕ
+unfoldable pub day_text : ℕ → Account → List ℕ
 day_text date d =
     codes "DAY " ++ columns_of_numbers
     (date ∷ d.load ∷ d.supplied ∷ d.generated ∷ d.remainder ∷ d.excess ∷ d.missing ∷ [])

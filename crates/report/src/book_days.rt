@@ -1,7 +1,7 @@
 ghost use Rattle.std.specs.Prelude.{◌≡◌};
 ghost use Rattle.report.specs.Intake.{InEverySetting};
 ghost use Rattle.report.specs.RecordRefusal.{book_column, is_book_date, outside_column};
-ghost use Rattle.terms.specs.Numbers.{number_of};
+ghost use Rattle.terms.specs.Refusal.{number_of};
 
 use calendar::day_number_of;
 use line_format::Record;

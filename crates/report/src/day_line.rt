@@ -1,7 +1,7 @@
 ghost use Rattle.std.specs.Prelude.{Some};
 ghost use Rattle.report.specs.ReportLines.{day_text};
 
-use sheet::DayFigures;
+use sheet::{Account};
 use std::fmt;
 
 /// The line of a day with a load in a report, without its line feed: `DAY`, and in ten columns each
@@ -12,7 +12,7 @@ pub struct DayLine {
     /// The date, as 20240701.
     pub date: u32,
     /// The account of the day.
-    pub figures: DayFigures,
+    pub figures: Account,
 }
 
 impl fmt::Display for DayLine {
@@ -20,7 +20,7 @@ impl fmt::Display for DayLine {
 
     fn fmt<W: fmt::Write>(&self, f: &mut fmt::Formatter<W>) -> fmt::Result {
         let date = self.date;
-        let DayFigures {
+        let Account {
             load,
             supplied,
             generated,

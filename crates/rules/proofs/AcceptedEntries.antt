@@ -2,7 +2,7 @@
 use Rattle.std.proofs.Common.{◌≡◌, ℕ, ◌+◌, ◌<◌, ◌≤◌, Bool, true, false, cond, not, ◌||◌, ltb, List, [], ◌∷◌, is_some, Some, None, count_by, Option, sym, refl, ap, ◌∙◌, ◌-◌, leb, length, get_or, ℤ, pos, negsuc, subst, inl, inr, arith}
 use Rattle.std.specs.List.{AllByRecursion}
 use Rattle.std.proofs.lemmas.Bool.{true≢false, and_parts, ltb-true, ltb-false, not-false, leb-true}
-use Rattle.rules.specs.Calls.{Condition, IsLawful, is_after_all_marks, conditions, ends_where_not_allowed, enrols_again, entry_of, first_refusal, reading_passes, finds_no_place, refusal, replaces_firm_though_soft, starts_at_no_mark, is_between, is_beyond_limits, covers_day_without_load, energy_of, is_energy_within_limit, first_day_without_load, is_in_book, largest_energy, names_day_outside_book, day_of_date, retailers}
+use Rattle.rules.specs.Calls.{Condition, IsLawful, is_after_all_marks, conditions, ends_where_not_allowed, enrols_again, entry_of, first_refusal, reading_passes, finds_no_place, refusal, replaces_firm_though_soft, starts_at_no_mark, is_between, is_beyond_limits, covers_day_without_load, energy_of, is_energy_within_limit, first_day_without_load, is_in_book, names_day_outside_book, day_of_date}
 use Rattle.rules.specs.History.{History, Setting, enrolment_of, gate_in, gate_of, covered_days}
 use Rattle.rules.specs.Readings.{held_readings, is_mark, replaces, Holds}
 use Rattle.rules.specs.declared.call.Call.{Call}
@@ -19,6 +19,7 @@ use Rattle.rules.specs.Figures.{load, load_from_gate}
 use Rattle.rules.specs.ReadingLaws.{LiesInBook, KeepsLimits, EntryLiesInBook}
 use Rattle.rules.proofs.Readings.{kept_among}
 use Rattle.estimators.specs.Limits.{greatest_count}
+use Rattle.terms.specs.Limits.{largest_energy, retailers}
 
 -- a condition that is not the first to hold does not hold, and the refusal is that of the others
 passed_over : (b : Bool) (n : ℕ) (rest : Option ℕ) → cond b (Some n) rest ≡ None → (b ≡ false) × (rest ≡ None)

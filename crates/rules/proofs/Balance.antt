@@ -4,7 +4,7 @@ use Rattle.std.specs.List.{range_with_len}
 use Rattle.std.specs.Option.{option_map, option_or}
 use Rattle.std.proofs.lemmas.List.FromFn.{length-map-range_with_len, get_or-map-range_with_len}
 use Rattle.std.proofs.lemmas.Bool.{and_cases, and_parts, cond_both, cond-false, cond-true, false≢true, ltb-false, ltb-true, leb-true, not-false, not-true, true≢false}
-use Rattle.allocation.specs.Laws.{length_shares, share_within, sum_shares}
+use Rattle.allocation.specs.ShareLaws.{length_shares, share_within, sum_shares}
 use Rattle.allocation.specs.Sharing.{shares}
 use Rattle.rules.specs.Figures.{counted_estimate, estimates, estimates_sum, needs_scaling, figure, figures_sum, generated_figures, generated_sum, interval_total, load, points_of, share_on, supplied_figure, supplied_sum, has_begun, belongs_to, excess, remainder, is_active, estimate, is_estimated}
 use Rattle.rules.specs.History.{History, Setting, covering_reading, gate_of, enrolment_of}
@@ -12,7 +12,7 @@ use Rattle.rules.specs.declared.entry.Reading.{Reading}
 use Rattle.rules.specs.FigureLaws.{Balances, retailers_sum, is_scaled}
 use Rattle.rules.proofs.Days.{covered_not_estimated, generated_none}
 use Rattle.rules.proofs.SumsAndRows.{map_over, row_from_one, sum_added, sum_once, sum_swap, sum_zeros}
-use Rattle.rules.specs.Calls.{IsLawful, is_between, is_beyond_limits, entry_of, retailers}
+use Rattle.rules.specs.Calls.{IsLawful, is_between, is_beyond_limits, entry_of}
 use Rattle.rules.specs.declared.call.Call.{Call}
 use Rattle.rules.specs.declared.call.Call.TheVariants.{Enrol}
 use Rattle.rules.specs.declared.entry.Enrolment.{Enrolment}
@@ -21,6 +21,7 @@ use Rattle.rules.specs.declared.entry.Entry.TheVariants.{Enrolled}
 use Rattle.rules.proofs.AcceptedEntries.{accepted}
 use Rattle.rules.proofs.MovedDays.{figure_before}
 use Rattle.allocation.specs.Loads as loads
+use Rattle.terms.specs.Limits.{retailers}
 
 -- where estimates are scaled, the load is below supplied energy and estimates together, and some estimate is above 0
 pub exceeded_means : (a g : ℕ) (o : Option ℕ) → needs_scaling a g o ≡ true → (unwrap_or o 0 < a + g) × (0 < g)

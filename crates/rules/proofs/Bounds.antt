@@ -10,10 +10,10 @@ use Rattle.std.proofs.lemmas.List.Sums.{get_or-le-sum_by, sum-map}
 use Rattle.std.proofs.lemmas.Bool.{and_from, and_parts, cases_lt, cond_both, eqb-false, le-leb, leb-true, lt-ltb, not-false}
 use Rattle.estimators.specs.Limits.{greatest_figure, last_day, last_point}
 use Rattle.allocation.specs.Loads.{largest_gate}
-use Rattle.allocation.specs.Laws.{sum_shares}
-use Rattle.allocation.specs.Limits.{largest_product}
+use Rattle.allocation.specs.ShareLaws.{sum_shares}
+use Rattle.allocation.specs.SharingLimits.{largest_product}
 use Rattle.allocation.specs.Sharing.{can_share, shares}
-use Rattle.rules.specs.Calls.{IsLawful, entry_of, is_beyond_limits, largest_energy}
+use Rattle.rules.specs.Calls.{IsLawful, entry_of, is_beyond_limits}
 use Rattle.rules.specs.Figures.{estimate, counted_estimate, is_estimated, estimates, figure, generated_figures, load, load_from_gate, share_on, supplied_figure, supplied_sum, weight, weights}
 use Rattle.rules.specs.History.{History, Setting, covering_reading, gate_of}
 use Rattle.rules.specs.declared.call.Call.{Call}
@@ -26,6 +26,7 @@ use Rattle.rules.specs.Readings.{Holds}
 use Rattle.rules.proofs.AcceptedEntries.{accepted, held_in_book}
 use Rattle.rules.proofs.HeldReadings.{end_to_end, covering_held}
 use Rattle.rules.proofs.Balance.{scaling_only_lowers}
+use Rattle.terms.specs.Limits.{largest_energy}
 
 -- a share is at most the whole amount
 pub share_most : (c : ℕ) (ws : List ℕ) (k : ℕ) → 0 < sum ws → get_or (shares c ws) k 0 ≤ c

@@ -5,7 +5,7 @@ use Rattle.std.specs.Option.{option_map, option_or}
 use Rattle.std.proofs.lemmas.List.FromFn.{get_or-map-range_with_len, length-map-range_with_len}
 use Rattle.std.proofs.lemmas.List.{get_or_past}
 use Rattle.std.proofs.lemmas.Bool.{cases_lt, cond-false, cond_both}
-use Rattle.allocation.specs.Laws.{share_of_nothing}
+use Rattle.allocation.specs.ShareLaws.{share_of_nothing}
 use Rattle.allocation.specs.Sharing.{shares}
 use Rattle.rules.specs.Figures.{is_active, belongs_to, estimate, counted_estimate, is_estimated, estimates, estimates_sum, needs_scaling, figure, figures_sum, generated_figures, load, missing_count, points_of, retailer_sum, share_on, supplied_figure, supplied_sum, weight, weights, has_begun, estimate_under}
 use Rattle.rules.specs.History.{History, Setting, covering_reading, enrolment_of, gate_of, interval_energy, covers}

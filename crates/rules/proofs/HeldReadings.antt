@@ -13,7 +13,7 @@ use Rattle.rules.proofs.EndToEnd.{AtMark, IsTiled, tiled_enrolled, tiled_more, t
 use Rattle.rules.specs.Figures.{is_active, has_begun}
 use Rattle.rules.specs.ReadingLaws.{HoldsEndToEnd, IsCoveredByHeld, ReplacesWholes}
 use Rattle.std.proofs.lemmas.List.Sums.{length-filter}
-use Rattle.terms.specs.Types.{firm}
+use Rattle.terms.specs.ReadingType.{is_firm}
 
 -- the test of a mark, and what it tells
 pub at_mark : (h : History) (p m : ℕ) → is_mark h p m ≡ true → AtMark (enrolment_of h) (held_readings h) p m
@@ -182,14 +182,14 @@ module _ (s : Setting) (h : History) (lawful : IsLawful s h) where
 
 -- a reading that replaces a firm one is firm
 pub firm_replaced : (s : Setting) (h : History) (r old : Reading)
-    → IsLawful s (ReadingTaken r ∷ h) → Holds h old → replaces r old ≡ true → firm old.reading_type ≡ true
-    → firm r.reading_type ≡ true
+    → IsLawful s (ReadingTaken r ∷ h) → Holds h old → replaces r old ≡ true → is_firm old.reading_type ≡ true
+    → is_firm r.reading_type ≡ true
 firm_replaced s h r old lawful a e f =
-    let over : Reading → Bool = λ o. replaces r o && firm o.reading_type in
-    ⊎_elim (λ soft. not-false (firm r.reading_type) soft)
+    let over : Reading → Bool = λ o. replaces r o && is_firm o.reading_type in
+    ⊎_elim (λ soft. not-false (is_firm r.reading_type) soft)
     (λ none. absurd (both_ways (list_any over (held_readings h)) none
-    (among_some over (held_readings h) old a (and_from (replaces r old) (firm old.reading_type) e f))))
-    (and_cases (not (firm r.reading_type)) (list_any over (held_readings h)) (fits s h r lawful).over_firm)
+    (among_some over (held_readings h) old a (and_from (replaces r old) (is_firm old.reading_type) e f))))
+    (and_cases (not (is_firm r.reading_type)) (list_any over (held_readings h)) (fits s h r lawful).over_firm)
 
 -- a newly accepted reading replaces whole readings, and firm ones only where it is firm itself
 pub replacing : (s : Setting) (h : History) (r : Reading) → IsLawful s (ReadingTaken r ∷ h) → ReplacesWholes h r

@@ -1,10 +1,9 @@
 -- When a call is refused, by which number, and the entry that it makes when it is not.
 use Rattle.std.specs.Prelude.{◌≡◌, ℕ, ◌+◌, ◌-◌, Bool, true, false, if◌then◌else◌, not, ◌&&◌, ◌||◌, List, [], ◌∷◌, ℤ, pos, negsuc, is_some, Some, None, count_by, Option, ◌==◌, nat_le, nat_lt}
 use Rattle.std.specs.List.{list_any}
-use Rattle.calendar.specs.Digits.{date_numbered, day_number_of, is_date}
+use Rattle.calendar.specs.Digits.{day_number_of, is_date, date_of_day_number}
 use Rattle.estimators.specs.Limits.{greatest_count}
 use Rattle.allocation.specs.Loads.{largest_gate}
-use Rattle.terms.specs.Types.{firm}
 use Rattle.rules.specs.Figures.{load}
 use Rattle.rules.specs.History.{History, Setting, covered_days, enrolment_of}
 use Rattle.rules.specs.Readings.{held_readings, is_mark, replaces}
@@ -15,6 +14,7 @@ use Rattle.rules.specs.declared.entry.Enrolment.{Enrolment}
 use Rattle.rules.specs.declared.entry.Entry.{Entry}
 use Rattle.rules.specs.declared.entry.Entry.TheVariants.{Enrolled, GateEntered, IntervalEntered, DegreeDaysEntered, ReadingTaken}
 use Rattle.rules.specs.declared.entry.Reading.{Reading}
+use Rattle.terms.specs.ReadingType.{is_firm}
 
 -- how many retailers and interval meters there are, and the most that a meter burns on a day and that a reading has
 abbrev pub retailers : ℕ
@@ -46,7 +46,7 @@ day_of_date s date = day_number_of date - s.first
 -- the date of a day of the book, where there is such a day
 abbrev pub date_of_day : Setting → (day : Option ℕ) → Option ℕ
 date_of_day s None = None
-date_of_day s (Some d) = Some (date_numbered (s.first + d))
+date_of_day s (Some d) = Some (date_of_day_number (s.first + d))
 
 -- an energy is negative
 abbrev pub is_negative : ℤ → Bool
@@ -174,7 +174,7 @@ covers_day_without_load s h r = is_some (first_day_without_load s h (covered_day
 -- 12: the reading is soft and would replace a firm one
 abbrev pub replaces_firm_though_soft : History → Reading → Bool
 replaces_firm_though_soft h r =
-    not (firm r.reading_type) && list_any (λ old. replaces r old && firm old.reading_type) (held_readings h)
+    not (is_firm r.reading_type) && list_any (λ old. replaces r old && is_firm old.reading_type) (held_readings h)
 
 -- 13: with the reading more would be held than there are places
 abbrev pub finds_no_place : Setting → History → Reading → Bool

@@ -5,7 +5,7 @@ use Rattle.std.specs.Option.{unwrap_or}
 use Rattle.estimators.specs.Limits.{greatest_figure, last_day, last_point}
 use Rattle.allocation.specs.Loads.{largest_gate}
 use Rattle.allocation.specs.Sharing.{can_share, shares}
-use Rattle.rules.specs.Calls.{IsLawful, largest_energy, retailers}
+use Rattle.rules.specs.Calls.{IsLawful}
 use Rattle.rules.specs.Figures.{estimate, estimates, estimates_sum, excess, figure, figures_sum, generated_figures, generated_sum, is_active, is_estimated, load, missing_count, needs_scaling, remainder, retailer_sum, share_on, supplied_figure, supplied_sum, weights}
 use Rattle.rules.specs.History.{History, Setting, covering_reading, covers, degree_day_count, enrolment_of, gate_of, interval_energy}
 use Rattle.rules.specs.Readings.{Holds, accepted_readings, are_joined, held_readings}
@@ -13,6 +13,7 @@ use Rattle.rules.specs.declared.entry.Enrolment.{Enrolment}
 use Rattle.rules.specs.declared.entry.Entry.TheVariants.{Enrolled, GateEntered, IntervalEntered, DegreeDaysEntered, ReadingTaken}
 use Rattle.rules.specs.declared.entry.GateDay.{GateDay}
 use Rattle.rules.specs.declared.entry.Reading.{Reading}
+use Rattle.terms.specs.Limits.{largest_energy, retailers}
 
 -- The account of a day.
 

@@ -2,14 +2,15 @@
 use Rattle.std.specs.Prelude.{◌≡◌, ℕ, ◌<◌, ◌≤◌, ◌≢◌, true, false, ◌∷◌, length, is_some, Some, None, count_by, Option}
 use Rattle.std.specs.List.{find, list_any}
 use Rattle.estimators.specs.Limits.{greatest_count}
-use Rattle.terms.specs.Types.{firm}
-use Rattle.rules.specs.Calls.{IsLawful, is_after_all_marks, largest_energy}
+use Rattle.rules.specs.Calls.{IsLawful, is_after_all_marks}
 use Rattle.rules.specs.Figures.{is_active, load}
 use Rattle.rules.specs.History.{History, Setting, covering_reading, covers, enrolment_of}
 use Rattle.rules.specs.Readings.{AreApart, Holds, held_readings, held_readings_of, is_enrolment_of, is_mark, is_reading, is_reading_of, replaces}
 use Rattle.rules.specs.declared.entry.Entry.{Entry}
 use Rattle.rules.specs.declared.entry.Entry.TheVariants.{Enrolled, GateEntered, IntervalEntered, DegreeDaysEntered, ReadingTaken}
 use Rattle.rules.specs.declared.entry.Reading.{Reading}
+use Rattle.terms.specs.ReadingType.{is_firm}
+use Rattle.terms.specs.Limits.{largest_energy}
 
 -- an entry speaks of days and points of the book, and of a degree-day count that there can be
 abbrev pub EntryLiesInBook : Setting → Option Entry → Type 0
@@ -71,7 +72,7 @@ pub record ReplacesWholes (h : History) (r : Reading) : Type 0 where
   pub wholly : (old : Reading) → Holds h old → replaces r old ≡ true → (r.start ≤ old.start) × (old.end ≤ r.end)
   pub firm_by_firm :
       (old : Reading)
-      → Holds h old → replaces r old ≡ true → firm old.reading_type ≡ true → firm r.reading_type ≡ true
+      → Holds h old → replaces r old ≡ true → is_firm old.reading_type ≡ true → is_firm r.reading_type ≡ true
 
 -- so does every reading that a book accepts
 abbrev pub ReadingsReplaceWholes : Type 0

@@ -2,7 +2,7 @@
 use Rattle.std.proofs.Common.{◌≡◌, ℕ, ◌+◌, ◌-◌, ◌*◌, ◌<◌, ◌≤◌, ◌⊎◌, get_or, drop, vec_items, sym, ap, ◌∙◌, subst, ⊎_elim, mul-le-mul_right, arith, None, length, vec_len}
 use Rattle.std.proofs.lemmas.List.{get_or-set_other, get_or-set_same, length-set}
 use Rattle.rules.specs.History.{History, Setting}
-use Rattle.ledger.specs.declared.state.Ledger.{Ledger}
+use Rattle.ledger.specs.declared.ledger.Ledger.{Ledger}
 use Rattle.sheet.specs.Coverage.{CoversTo}
 use Rattle.sheet.specs.Sheet.{ChangesOnlyDays, SetsFigure, figure_at}
 use Rattle.sheet.specs.SheetOfHistory.{KnowsHistory, ShowsDay, ShowsSupplied}

@@ -1,13 +1,13 @@
 -- A sheet that opens shows nothing.
 use Rattle.std.proofs.Common.{◌≡◌, ℕ, zero, suc, ◌+◌, ◌-◌, ◌*◌, ◌≤◌, List, [], ◌++◌, map, length, get_or, take, drop, replicate, None, vec_items, sym, refl, ap, ◌∙◌, subst}
-use Rattle.rules.proofs.Lawfully.{figure_before}
 use Rattle.rules.specs.History.{History, Setting}
-use Rattle.ledger.proofs.Opened.{cleared_read, cleared_rest, zero_of}
+use Rattle.ledger.proofs.Openings.{cleared_read, cleared_rest, zero_of}
 use Rattle.sheet.specs.SheetOfHistory.{HasTrueNote, IsSheetOf, IsTrueNote}
 use Rattle.sheet.specs.declared.sheet.DayNote.TheVariants.{NothingKnown}
 use Rattle.sheet.specs.declared.sheet.Sheet.{Sheet}
 use Rattle.sheet.proofs.Coverage.{covered_at_opening}
 use Rattle.sheet.proofs.RowsByPlaces.{place_before}
+use Rattle.rules.proofs.MovedDays.{figure_before}
 
 pub read_of_one : {X : Type 0} (x : X) (n k : ℕ) → get_or (replicate n x) k x ≡ x
 read_of_one x zero k = refl

@@ -6,15 +6,14 @@ use Rattle.std.proofs.lemmas.Bool.{and_from, and_parts, cases_Bool, cases_lt, co
 use Rattle.terms.specs.declared.reading_type.ReadingType.{ReadingType}
 use Rattle.terms.specs.declared.reading_type.ReadingType.TheVariants.{Actual, CustomersOwn, Estimated, Substituted}
 use Rattle.rules.specs.History.{History, Setting}
-use Rattle.rules.specs.Readings.{held_of}
 use Rattle.rules.specs.declared.entry.Reading.{Reading}
-use Rattle.rules.specs.Held.{Among, Held}
-use Rattle.rules.proofs.Members.{count_some, some_among}
-use Rattle.ledger.specs.Places.{placed}
-use Rattle.ledger.proofs.Held.{count_cons, some_counted}
-use Rattle.ledger.specs.Told.{Follows}
-use Rattle.ledger.specs.declared.state.Ledger.{Ledger}
+use Rattle.ledger.proofs.PlaceCounts.{count_cons, some_counted}
+use Rattle.ledger.specs.declared.ledger.Ledger.{Ledger}
 use Rattle.sheet.specs.HeldReadings.{same_reading, type_number}
+use Rattle.rules.specs.Readings.{held_readings, IsOneOf, Holds}
+use Rattle.rules.proofs.Readings.{count_some, some_among}
+use Rattle.ledger.specs.Places.{holds_passing}
+use Rattle.ledger.specs.Ledger.{IsLedgerOf}
 
 -- the type of a number
 abbrev type_numbered : ℕ → ReadingType
@@ -63,36 +62,36 @@ count_found p (x ∷ xs) d some =
     (cases_Bool (p x))
 
 -- a place that holds a reading which agrees with one holds that one
-placed_same : (r : Reading) (o : Option Reading) → placed (same_reading r) o ≡ true → o ≡ Some r
+placed_same : (r : Reading) (o : Option Reading) → holds_passing (same_reading r) o ≡ true → o ≡ Some r
 placed_same r None e = absurd (false≢true e)
 placed_same r (Some x) e = ap Some (sym (same_reading_is r x e))
 
 -- Places and readings of which as many pass, whatever the test.
 module _
     (places : List (Option Reading)) (readings : List Reading)
-    (passes : (test : Reading → Bool) → count_by (placed test) places ≡ count_by test readings) where
-  pub placed_is_among : (k : ℕ) (r : Reading) → get_or places k None ≡ Some r → Among r readings
+    (passes : (test : Reading → Bool) → count_by (holds_passing test) places ≡ count_by test readings) where
+  pub placed_is_among : (k : ℕ) (r : Reading) → get_or places k None ≡ Some r → IsOneOf r readings
   placed_is_among k r e =
       let test : Reading → Bool = same_reading r in
       let within : k < length places =
       ⊎_elim (λ (low : k < length places). low)
       (λ high. absurd (false≢true (ap is_some (sym (get_or_past places k None high) ∙ e)))) (cases_lt k (length places)) in
-      let one = get_or-le-sum_by (λ o. cond (placed test o) 1 0) places k None within in
-      let here : ◌≡◌ {A = ℕ} (cond (placed test (get_or places k None)) 1 0) 1 = ap (λ o. cond (placed test o) 1 0) e ∙ cond-true (same_reading r r) 1 0 (same_reading_self r) in
+      let one = get_or-le-sum_by (λ o. cond (holds_passing test o) 1 0) places k None within in
+      let here : ◌≡◌ {A = ℕ} (cond (holds_passing test (get_or places k None)) 1 0) 1 = ap (λ o. cond (holds_passing test o) 1 0) e ∙ cond-true (same_reading r r) 1 0 (same_reading_self r) in
       let some : 0 < count_by test readings = omega (arith, one, here, passes test) in
       let found = some_among test readings (some_counted test readings ∙ lt-ltb 0 (count_by test readings) some) in
       let same : r ≡ found.0 = same_reading_is r found.0 found.2 in
       rw same found.1
 
-  pub among_is_placed : (r : Reading) → Among r readings → (k : ℕ) × (k < length places) × (get_or places k None ≡ Some r)
+  pub among_is_placed : (r : Reading) → IsOneOf r readings → (k : ℕ) × (k < length places) × (get_or places k None ≡ Some r)
   among_is_placed r a =
       let test : Reading → Bool = same_reading r in
-      let found = count_found (placed test) places None (omega (arith, passes test, count_some test readings r a (same_reading_self r))) in
+      let found = count_found (holds_passing test) places None (omega (arith, passes test, count_some test readings r a (same_reading_self r))) in
       (found.0, found.1, placed_same r (get_or places found.0 None) found.2)
 
-pub placed_is_held : {s : Setting} {h : History} {l : Ledger} → Follows s h l → (k : ℕ) (r : Reading) → get_or (vec_items l.places) k None ≡ Some r → Held h r
-placed_is_held {s} {h} {l} follows = placed_is_among (vec_items l.places) (held_of h) follows.readings
+pub placed_is_held : {s : Setting} {h : History} {l : Ledger} → IsLedgerOf s h l → (k : ℕ) (r : Reading) → get_or (vec_items l.places) k None ≡ Some r → Holds h r
+placed_is_held {s} {h} {l} follows = placed_is_among (vec_items l.places) (held_readings h) follows.readings
 
-pub held_is_placed : {s : Setting} {h : History} {l : Ledger} → Follows s h l → (r : Reading) → Held h r
+pub held_is_placed : {s : Setting} {h : History} {l : Ledger} → IsLedgerOf s h l → (r : Reading) → Holds h r
     → (k : ℕ) × (k < length (vec_items l.places)) × (get_or (vec_items l.places) k None ≡ Some r)
-held_is_placed {s} {h} {l} follows = among_is_placed (vec_items l.places) (held_of h) follows.readings
+held_is_placed {s} {h} {l} follows = among_is_placed (vec_items l.places) (held_readings h) follows.readings

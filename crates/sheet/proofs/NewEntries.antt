@@ -4,24 +4,13 @@ use Rattle.std.proofs.lemmas.List.{get_or-set_other, get_or-set_same}
 use Rattle.std.proofs.lemmas.Bool.{and_from, and_left, and_parts, and_right, both_ways, cases_Bool, cases_eq, cases_lt, le-leb, le-ltb, lt-leb, lt-ltb, ltb-true}
 use Rattle.std.specs.Option.{option_map, option_or}
 use Rattle.std.specs.declared.alloc.Global.{Global}
-use Rattle.rules.proofs.Balanced.{supplied_shows}
-use Rattle.rules.proofs.Day.{share_same}
-use Rattle.rules.proofs.Lawfully.{enrolment_moves}
-use Rattle.rules.proofs.Local.{count_elsewhere, covering_elsewhere, not_covered, reading_elsewhere}
-use Rattle.rules.specs.Days.{SameDay}
-use Rattle.rules.specs.Calls.{Lawful}
-use Rattle.rules.specs.Figures.{begun, generated, load, share_on, supplied}
-use Rattle.rules.specs.History.{History, Setting, covering, covers}
-use Rattle.rules.specs.Readings.{joined, some_reading}
+use Rattle.rules.specs.Figures.{load, share_on, has_begun, generated_figures, supplied_figure}
+use Rattle.rules.specs.History.{History, Setting, covers, covering_reading}
 use Rattle.rules.specs.declared.entry.Enrolment.{Enrolment}
 use Rattle.rules.specs.declared.entry.Entry.TheVariants.{DegreeDaysEntered, Enrolled, ReadingTaken}
 use Rattle.rules.specs.declared.entry.Reading.{Reading}
-use Rattle.ledger.specs.Told.{Follows}
-use Rattle.ledger.specs.declared.state.Ledger.{Ledger}
-use Rattle.rules.proofs.LastCovering.{covering_held}
+use Rattle.ledger.specs.declared.ledger.Ledger.{Ledger}
 use Rattle.rules.proofs.Bounds.{held_within}
-use Rattle.rules.proofs.Entered.{entry_in}
-use Rattle.rules.specs.LoadMoved.{LoadMoved}
 use Rattle.sheet.specs.Coverage.{CoversTo}
 use Rattle.sheet.specs.Sheet.{ChangesOnlyDays, ChangesOnlyNotes, SetsCover, SetsLoad, figure_at, lies_in_sheet}
 use Rattle.sheet.specs.SheetOfHistory.{HasTrueNote, IsReadyToSettle, IsSettled, IsSheetOf, KnowsHistory, ShowsDay, ShowsShares, ShowsSharesOver, ShowsSupplied}
@@ -31,6 +20,16 @@ use Rattle.sheet.proofs.Changes.{Outside, beyond_stands, figure_at_stands, knows
 use Rattle.sheet.proofs.Coverage.{covered_after_enrolment, covered_after_reading}
 use Rattle.sheet.proofs.DayNotes.{count_kept, load_kept, note_outside, noted_kept, reading_kept}
 use Rattle.sheet.proofs.EmptySheet.{nothing_noted, read_of_one}
+use Rattle.rules.proofs.Balance.{supplied_shows}
+use Rattle.rules.proofs.Days.{share_same}
+use Rattle.rules.proofs.MovedDays.{enrolment_moves, count_elsewhere, covering_elsewhere, not_covered, reading_elsewhere}
+use Rattle.rules.specs.FigureLaws.{SameDay, DiffersInLoad}
+use Rattle.rules.specs.Calls.{IsLawful}
+use Rattle.rules.specs.Readings.{are_joined}
+use Rattle.std.specs.List.{list_any}
+use Rattle.rules.proofs.HeldReadings.{covering_held}
+use Rattle.rules.proofs.AcceptedEntries.{entry_in}
+use Rattle.ledger.specs.Ledger.{IsLedgerOf}
 
 -- what holds of the days from one day up to another, and of all others, holds of each
 by_days : {X : Type 0} (from to d : ℕ) → (from ≤ d → d < to → X) → (Outside from to d → X) → X
@@ -67,16 +66,16 @@ sheet_after {s} {rest} {h} {new} {from} {to} {old} {b} r is_sheet = record {
     kept d within away p low high = r.elsewhere p d low high away ∙ is_sheet.shown d within p low high ∙ sym ((r.outside d within away).figures_stand p)
 
 -- what is knows of a day's supplied figure by its reading
-supplied_by : (s : Setting) (h : History) (p d x : ℕ) (r : Reading) → covering h p d ≡ Some r → supplied s h p d ≡ Some x → share_on s h d r ≡ x
+supplied_by : (s : Setting) (h : History) (p d x : ℕ) (r : Reading) → covering_reading h p d ≡ Some r → supplied_figure s h p d ≡ Some x → share_on s h d r ≡ x
 supplied_by s h p d x r cover is = let both : Some (share_on s h d r) ≡ Some x = ap (option_map (share_on s h d)) (sym cover) ∙ is in cc
 
-none_supplied : (s : Setting) (h : History) (p d x : ℕ) → covering h p d ≡ None → supplied s h p d ≡ Some x → ⊥
+none_supplied : (s : Setting) (h : History) (p d x : ℕ) → covering_reading h p d ≡ None → supplied_figure s h p d ≡ Some x → ⊥
 none_supplied s h p d x cover is =
     let both : ◌≡◌ {A = Option ℕ} None (Some x) = ap (option_map (share_on s h d)) (sym cover) ∙ is in
     let z : ◌≡◌ {A = ℕ} 0 1 = cc in omega arith
 
 -- a day that a reading covers is a day of the book
-covered_day : (s : Setting) (h : History) → Lawful s h → (p d : ℕ) (r : Reading) → covering h p d ≡ Some r → d < s.days
+covered_day : (s : Setting) (h : History) → IsLawful s h → (p d : ℕ) (r : Reading) → covering_reading h p d ≡ Some r → d < s.days
 covered_day s h lawful p d r cover =
     let held = covering_held s h lawful p d r cover in
     let last = (held_within s h lawful r held.0).3 in
@@ -86,7 +85,7 @@ covered_day s h lawful p d r cover =
 
 -- a sheet that shows a day shows its supplied figures
 pub supplied_shown_before : (s : Setting) {rest : List ℕ} (h : History) (b : Sheet) → IsSheetOf s rest h b → (d : ℕ) → d < s.days → ShowsSupplied s h b d
-supplied_shown_before s h b is_sheet d within p x low high is = is_sheet.shown d within p low high ∙ ap (λ o. unwrap_or o (get_or (generated s h d) (p - 1) 0)) is
+supplied_shown_before s h b is_sheet d within p x low high is = is_sheet.shown d within p low high ∙ ap (λ o. unwrap_or o (get_or (generated_figures s h d) (p - 1) 0)) is
 
 -- a sheet that only learnt something shows what it showed
 pub record HasSameFigures (old new : Sheet) : Type 0 where
@@ -108,7 +107,7 @@ module _ {old new : Sheet} (same : HasSameFigures old new) where
       (beyond_stands only last ∙ ap (λ (v : Vec ℕ Global). drop (new.days * new.points) (vec_items v)) same.figures)
 
 -- A changed load.
-module _ (s : Setting) (h new : History) (g : ℕ) (l : Ledger) (moved : LoadMoved s h new g) (follows : Follows s new l)
+module _ (s : Setting) (h new : History) (g : ℕ) (l : Ledger) (moved : DiffersInLoad s h new g) (follows : IsLedgerOf s new l)
     {rest : List ℕ} (b0 b1 : Sheet) (is_sheet : IsSheetOf s rest h b0) (learned : SetsLoad g (load s new g) b0 b1) (inside_loads : g < length b0.loads) where
   learned_same : HasSameFigures b0 b1
   learned_same = record { days = learned.days; points = learned.points; figures = learned.figures }
@@ -125,16 +124,16 @@ module _ (s : Setting) (h new : History) (g : ℕ) (l : Ledger) (moved : LoadMov
         (λ (other : d ≡ g → ⊥). get_or-set_other b0.loads g d (load s new g) None other ∙ is_sheet.loads d within ∙ sym (moved.loads d other)) (cases_eq d g);
     covered = λ p d low high.
         ap is_some (moved.coverings p d) ∙ is_sheet.covered p d low high
-        ∙ sym (λ i. begun (moved.enrolments p i) d && ltb d (get_or (learned.covered i) (p - 1) 0));
+        ∙ sym (λ i. has_begun (moved.enrolments p i) d && ltb d (get_or (learned.covered i) (p - 1) 0));
   }
 
   module _ (from to : ℕ) (b2 : Sheet) (low : from ≤ g) (high : g < to) (last : to ≤ b1.days) (shared_only : ChangesOnlyDays from to b1 b2) (shared : ShowsSharesOver s new g from to b1 b2)
       (notes : b2.notes ≡ b0.notes) where
     -- every supplied figure is shown by the latest loads
     supplied_after_load : (d : ℕ) → ShowsSupplied s new b2 d
-    supplied_after_load d p x p_low p_high is = go (covering new p d) refl
+    supplied_after_load d p x p_low p_high is = go (covering_reading new p d) refl
       where
-        go : (o : Option Reading) → covering new p d ≡ o → figure_at b2 p d ≡ x
+        go : (o : Option Reading) → covering_reading new p d ≡ o → figure_at b2 p d ≡ x
         go None e = absurd (none_supplied s new p d x e is)
         go (Some r) e =
             ⊎_elim
@@ -157,13 +156,13 @@ module _ (s : Setting) (h new : History) (g : ℕ) (l : Ledger) (moved : LoadMov
     away : (d : ℕ) → Outside from to d → d ≡ g → ⊥
     away d outside same = ⊎_elim (λ before. omega arith) (λ after. omega arith) outside
 
-    apart : (d : ℕ) → Outside from to d → joined h d g ≡ false
+    apart : (d : ℕ) → Outside from to d → are_joined h d g ≡ false
     apart d outside =
         ⊎_elim
-        (λ (joins : joined h d g ≡ true).
-        let between = shared.between d (ap (some_reading (λ r. covers r r.point d && covers r r.point g)) moved.holdings ∙ joins) in
+        (λ (joins : are_joined h d g ≡ true).
+        let between = shared.between d (ap (list_any (λ r. covers r r.point d && covers r r.point g)) moved.holdings ∙ joins) in
         absurd (⊎_elim (λ before. omega (arith, between.0)) (λ after. omega (arith, between.1)) outside))
-        (λ (not_joined : joined h d g ≡ false). not_joined) (cases_Bool (joined h d g))
+        (λ (not_joined : are_joined h d g ≡ false). not_joined) (cases_Bool (are_joined h d g))
 
     pub sheet_after_load : (b3 : Sheet) → ChangesOnlyDays from to b2 b3 → ChangesOnlyNotes from to b2 b3 → ((d : ℕ) → from ≤ d → d < to → IsSettled s new b3 d) → IsSheetOf s rest new b3
     sheet_after_load b3 settled_only notes_stand settled =
@@ -185,7 +184,7 @@ module _ (s : Setting) (h new : History) (g : ℕ) (l : Ledger) (moved : LoadMov
         }) is_sheet
 
 -- A new reading.
-module _ (s : Setting) (h : History) (r : Reading) (l : Ledger) (lawful : Lawful s (ReadingTaken r ∷ h)) (follows : Follows s (ReadingTaken r ∷ h) l)
+module _ (s : Setting) (h : History) (r : Reading) (l : Ledger) (lawful : IsLawful s (ReadingTaken r ∷ h)) (follows : IsLedgerOf s (ReadingTaken r ∷ h) l)
     {rest : List ℕ} (b0 b1 : Sheet) (is_sheet : IsSheetOf s rest h b0) (learned : SetsCover r.point (max (get_or b0.cover_ends (r.point - 1) 0) r.end) b0 b1)
     (inside_table : r.point - 1 < length b0.cover_ends) where
   cover_same : HasSameFigures b0 b1
@@ -208,13 +207,13 @@ module _ (s : Setting) (h : History) (r : Reading) (l : Ledger) (lawful : Lawful
       ⊎_elim
       (λ (here : covers r p d ≡ true).
       shares p d low high ∙ ap (λ t. cond t (share_on s (ReadingTaken r ∷ h) d r) (figure_at b1 p d)) here
-      ∙ supplied_by s (ReadingTaken r ∷ h) p d x r (ap (λ t. option_or (cond t (Some r) None) (covering h p d)) here) is)
+      ∙ supplied_by s (ReadingTaken r ∷ h) p d x r (ap (λ t. option_or (cond t (Some r) None) (covering_reading h p d)) here) is)
       (λ (away : covers r p d ≡ false).
       shares p d low high ∙ ap (λ t. cond t (share_on s (ReadingTaken r ∷ h) d r) (figure_at b1 p d)) away ∙ figure_at_same cover_same p d
-      ∙ go (covering h p d) refl (covering_elsewhere h r p d away))
+      ∙ go (covering_reading h p d) refl (covering_elsewhere h r p d away))
       (cases_Bool (covers r p d))
     where
-      go : (o : Option Reading) → covering h p d ≡ o → covering (ReadingTaken r ∷ h) p d ≡ covering h p d → figure_at b0 p d ≡ x
+      go : (o : Option Reading) → covering_reading h p d ≡ o → covering_reading (ReadingTaken r ∷ h) p d ≡ covering_reading h p d → figure_at b0 p d ≡ x
       go None e same = absurd (none_supplied s (ReadingTaken r ∷ h) p d x (same ∙ e) is)
       go (Some old) e same =
           is_sheet.shown d (covered_day s h lawful.0 p d old e) p low high ∙ supplied_shows s h p d old e ∙ supplied_by s (ReadingTaken r ∷ h) p d x old (same ∙ e) is
@@ -226,11 +225,11 @@ module _ (s : Setting) (h : History) (r : Reading) (l : Ledger) (lawful : Lawful
     noted_kept (reading_kept s h r d) b0 b2 stands (ap (λ ns. get_or ns d NothingKnown) notes) (is_sheet.noted d within),
   )
     where
-      stands : (p : ℕ) → 1 ≤ p → p ≤ s.points → is_some (covering (ReadingTaken r ∷ h) p d) ≡ false → figure_at b2 p d ≡ figure_at b0 p d
+      stands : (p : ℕ) → 1 ≤ p → p ≤ s.points → is_some (covering_reading (ReadingTaken r ∷ h) p d) ≡ false → figure_at b2 p d ≡ figure_at b0 p d
       stands p low high none =
           ⊎_elim
           (λ (here : covers r p d ≡ true).
-          absurd (both_ways (is_some (covering (ReadingTaken r ∷ h) p d)) none (ap (λ t. is_some (option_or (cond t (Some r) None) (covering h p d))) here)))
+          absurd (both_ways (is_some (covering_reading (ReadingTaken r ∷ h) p d)) none (ap (λ t. is_some (option_or (cond t (Some r) None) (covering_reading h p d))) here)))
           (λ (away : covers r p d ≡ false).
           shares p d low high ∙ ap (λ t. cond t (share_on s (ReadingTaken r ∷ h) d r) (figure_at b1 p d)) away ∙ figure_at_same cover_same p d)
           (cases_Bool (covers r p d))
@@ -258,7 +257,7 @@ module _ (s : Setting) (h : History) (r : Reading) (l : Ledger) (lawful : Lawful
       not_over d (inr after) = and_right (eqb r.point r.point) _ (and_right (leb r.start d) (ltb d r.end) (le-ltb d r.end after))
 
 -- An enrolment.
-module _ (s : Setting) (h : History) (q : ℕ) (e : Enrolment) (l : Ledger) (lawful : Lawful s (Enrolled q e ∷ h)) (follows : Follows s (Enrolled q e ∷ h) l)
+module _ (s : Setting) (h : History) (q : ℕ) (e : Enrolment) (l : Ledger) (lawful : IsLawful s (Enrolled q e ∷ h)) (follows : IsLedgerOf s (Enrolled q e ∷ h) l)
     {rest : List ℕ} (b0 b1 : Sheet) (is_sheet : IsSheetOf s rest h b0) (learned : SetsCover q e.start b0 b1) (inside_table : q - 1 < length b0.cover_ends) where
   start_same : HasSameFigures b0 b1
   start_same = record { days = learned.days; points = learned.points; figures = learned.figures }
@@ -303,7 +302,7 @@ module _ (s : Setting) (h : History) (q : ℕ) (e : Enrolment) (l : Ledger) (law
       }) is_sheet
 
 -- A degree-day count.
-module _ (s : Setting) (h : History) (g count : ℕ) (l : Ledger) (lawful : Lawful s (DegreeDaysEntered g count ∷ h)) (follows : Follows s (DegreeDaysEntered g count ∷ h) l)
+module _ (s : Setting) (h : History) (g count : ℕ) (l : Ledger) (lawful : IsLawful s (DegreeDaysEntered g count ∷ h)) (follows : IsLedgerOf s (DegreeDaysEntered g count ∷ h) l)
     {rest : List ℕ} (b0 : Sheet) (is_sheet : IsSheetOf s rest h b0) where
   pub knows_count : KnowsHistory s (DegreeDaysEntered g count ∷ h) l b0
   knows_count = record {
@@ -344,7 +343,7 @@ module _ (s : Setting) (h : History) (g count : ℕ) (l : Ledger) (lawful : Lawf
       away d outside same = ⊎_elim (λ before. omega arith) (λ after. omega arith) outside
 
 -- a reading that a book has just accepted lies in a sheet of its days and points
-pub reading_lies : (s : Setting) {rest : List ℕ} (h : History) (r : Reading) → Lawful s (ReadingTaken r ∷ h) → (b : Sheet) → IsSheetOf s rest h b → lies_in_sheet b r ≡ true
+pub reading_lies : (s : Setting) {rest : List ℕ} (h : History) (r : Reading) → IsLawful s (ReadingTaken r ∷ h) → (b : Sheet) → IsSheetOf s rest h b → lies_in_sheet b r ≡ true
 reading_lies s h r lawful b is_sheet =
     let within = held_within s (ReadingTaken r ∷ h) lawful r (inl refl) in
     and_from _ _ (le-leb 1 r.point within.0)

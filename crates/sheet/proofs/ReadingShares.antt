@@ -6,22 +6,22 @@ use Rattle.std.proofs.lemmas.List.Sums.{get_or-le-sum_by}
 use Rattle.std.proofs.lemmas.Bool.{and_from, cases_Bool, cases_eq, cases_lt, cond-false, cond-true, cond_both, eq-eqb, le-leb, le-ltb, lt-ltb, ne_eqb}
 use Rattle.std.specs.List.{range_with_len}
 use Rattle.allocation.proofs.LoadLaws.{weight_positive}
-use Rattle.allocation.specs.Kinds.{with_share}
-use Rattle.allocation.specs.Laws.{length_shares}
-use Rattle.allocation.specs.Limits.{largest_day_weight, largest_product}
-use Rattle.allocation.specs.Rows.{handed}
+use Rattle.allocation.specs.ShareLaws.{length_shares}
+use Rattle.allocation.specs.SharingLimits.{largest_day_weight, largest_product}
 use Rattle.allocation.specs.Sharing.{can_share, shares}
 use Rattle.allocation.specs.declared.reading_day.ReadingDay.{ReadingDay}
 use Rattle.rules.specs.Figures.{weight, weights}
 use Rattle.rules.specs.History.{History, Setting, covers}
 use Rattle.rules.specs.declared.entry.Reading.{Reading}
-use Rattle.ledger.specs.declared.state.Ledger.{Ledger}
-use Rattle.rules.proofs.Spans.{covers_facts}
+use Rattle.ledger.specs.declared.ledger.Ledger.{Ledger}
 use Rattle.sheet.specs.DayWeights.{shares_of_days, weight_of_load, weights_of_days}
 use Rattle.sheet.specs.Sheet.{ChangesOnlyDays, LiesInSheet, figure_at}
 use Rattle.sheet.specs.SheetOfHistory.{KnowsHistory, ShowsShares}
 use Rattle.sheet.specs.declared.sheet.Sheet.{Sheet}
 use Rattle.sheet.proofs.RowsByPlaces.{handed_shares, handed_weights, place_after, place_apart, place_before}
+use Rattle.allocation.specs.ReadingDay.{with_share}
+use Rattle.allocation.specs.Row.{rows_with_shares}
+use Rattle.rules.proofs.Readings.{covers_facts}
 
 -- a day other than the next is among the days so far or not
 same_test : (point p start d to : ℕ) → (point ≡ p → d ≡ to → ⊥) → (eqb point p && (leb start d && ltb d to)) ≡ (eqb point p && (leb start d && ltb d (to + 1)))
@@ -87,15 +87,15 @@ module _ (old b new : Sheet) (point start to share : ℕ) (from : start ≤ to) 
 
 -- days that have taken shares weigh what they did
 handed_weigh : (days : List ReadingDay) (amount : ℕ) (taken : List ReadingDay)
-    → taken ≡ cond (can_share largest_day_weight amount (weights_of_days days)) (handed with_share days (shares amount (weights_of_days days))) days → weights_of_days taken ≡ weights_of_days days
+    → taken ≡ cond (can_share largest_day_weight amount (weights_of_days days)) (rows_with_shares with_share days (shares amount (weights_of_days days))) days → weights_of_days taken ≡ weights_of_days days
 handed_weigh days amount taken is =
     ap weights_of_days is
-    ∙ cond_both (can_share largest_day_weight amount (weights_of_days days)) (handed with_share days (shares amount (weights_of_days days))) days (λ l. weights_of_days l ≡ weights_of_days days)
+    ∙ cond_both (can_share largest_day_weight amount (weights_of_days days)) (rows_with_shares with_share days (shares amount (weights_of_days days))) days (λ l. weights_of_days l ≡ weights_of_days days)
     (λ _. handed_weights days (shares amount (weights_of_days days))) (λ _. refl)
 
 -- a row weighs the same with other days in the place of some, where these weigh the same
 pub row_weighs : (row taken : List ReadingDay) (a k : ℕ) (amount : ℕ)
-    → taken ≡ cond (can_share largest_day_weight amount (weights_of_days (take k (drop a row)))) (handed with_share (take k (drop a row)) (shares amount (weights_of_days (take k (drop a row))))) (take k (drop a row))
+    → taken ≡ cond (can_share largest_day_weight amount (weights_of_days (take k (drop a row)))) (rows_with_shares with_share (take k (drop a row)) (shares amount (weights_of_days (take k (drop a row))))) (take k (drop a row))
     → weights_of_days (take a row ++ (taken ++ drop k (drop a row))) ≡ weights_of_days row
 row_weighs row taken a k amount is =
     apart taken
@@ -177,7 +177,7 @@ module _ {s : Setting} {h : History} {l : Ledger} {b : Sheet} (knows : KnowsHist
   -- days of the row that have taken a reading's shares show them
   pub spread_shown : (r : Reading) (taken : List ReadingDay) (new : Sheet) → LiesInSheet b r
       → can_share largest_day_weight r.energy (weights_of_days (take (r.end - r.start) (drop r.start b.reading_days))) ≡ true
-      → taken ≡ cond (can_share largest_day_weight r.energy (weights_of_days (take (r.end - r.start) (drop r.start b.reading_days)))) (handed with_share (take (r.end - r.start) (drop r.start b.reading_days)) (shares r.energy (weights_of_days (take (r.end - r.start) (drop r.start b.reading_days))))) (take (r.end - r.start) (drop r.start b.reading_days))
+      → taken ≡ cond (can_share largest_day_weight r.energy (weights_of_days (take (r.end - r.start) (drop r.start b.reading_days)))) (rows_with_shares with_share (take (r.end - r.start) (drop r.start b.reading_days)) (shares r.energy (weights_of_days (take (r.end - r.start) (drop r.start b.reading_days))))) (take (r.end - r.start) (drop r.start b.reading_days))
       → length taken ≡ r.end - r.start
       → ((p d : ℕ) → 1 ≤ p → p ≤ b.points → figure_at new p d ≡ cond (covers r p d) (get_or (shares_of_days (take r.start b.reading_days ++ (taken ++ drop (r.end - r.start) (drop r.start b.reading_days)))) d 0) (figure_at b p d))
       → ShowsShares s h r b new
@@ -202,7 +202,7 @@ module _ {s : Setting} {h : History} {l : Ledger} {b : Sheet} (knows : KnowsHist
 
       taken_shares : shares_of_days taken ≡ shares r.energy (weights s h r)
       taken_shares =
-          let all_taken : taken ≡ handed with_share days (shares r.energy (weights_of_days days)) = took ∙ cond-true _ _ _ can in
+          let all_taken : taken ≡ rows_with_shares with_share days (shares r.energy (weights_of_days days)) = took ∙ cond-true _ _ _ can in
           ap shares_of_days all_taken
           ∙ handed_shares days (shares r.energy (weights_of_days days)) (length_shares r.energy (weights_of_days days) ∙ length-map days (λ (day : ReadingDay). day.weight))
           ∙ ap (shares r.energy) weigh

@@ -4,11 +4,12 @@ use Rattle.std.specs.List.{range_with_len}
 use Rattle.std.proofs.lemmas.Nat.{div-mul-add, mod-mul-add, mul-add-lt, mul-le}
 use Rattle.std.proofs.lemmas.List.FromFn.{get_or-map-range_with_len, length-map-range_with_len}
 use Rattle.std.proofs.lemmas.List.{ext_get_or, get_or-drop}
-use Rattle.allocation.specs.Kinds.{with_figure, with_share}
-use Rattle.allocation.specs.Rows.{handed}
 use Rattle.allocation.specs.declared.estimated_point.EstimatedPoint.{EstimatedPoint}
 use Rattle.allocation.specs.declared.reading_day.ReadingDay.{ReadingDay}
-use Rattle.allocation.proofs.Handing.{handed_keeps, handed_shows}
+use Rattle.allocation.specs.EstimatedPoint.{with_figure}
+use Rattle.allocation.specs.ReadingDay.{with_share}
+use Rattle.allocation.specs.Row.{rows_with_shares}
+use Rattle.allocation.proofs.RowShares.{rows_with_shares_keep, rows_with_shares_show}
 
 -- two lists that agree from place n on have the same rest
 pub same_drop : (n : ℕ) (xs ys : List ℕ) → length xs ≡ length ys → ((k : ℕ) → n ≤ k → get_or xs k 0 ≡ get_or ys k 0) → drop n xs ≡ drop n ys
@@ -26,17 +27,17 @@ from_counting f n xs long at =
 
 -- Rows that have taken their shares show them, and weigh what they did.
 
-pub handed_figures : (rows : List EstimatedPoint) (ss : List ℕ) → length ss ≡ length rows → map (λ r. r.figure) (handed with_figure rows ss) ≡ ss
-handed_figures = handed_shows with_figure (λ r. r.figure) (λ r s. refl)
+pub handed_figures : (rows : List EstimatedPoint) (ss : List ℕ) → length ss ≡ length rows → map (λ r. r.figure) (rows_with_shares with_figure rows ss) ≡ ss
+handed_figures = rows_with_shares_show with_figure (λ r. r.figure) (λ r s. refl)
 
-pub handed_estimates : (rows : List EstimatedPoint) (ss : List ℕ) → map (λ r. r.estimate) (handed with_figure rows ss) ≡ map (λ r. r.estimate) rows
-handed_estimates = handed_keeps with_figure (λ r. r.estimate) (λ r s. refl)
+pub handed_estimates : (rows : List EstimatedPoint) (ss : List ℕ) → map (λ r. r.estimate) (rows_with_shares with_figure rows ss) ≡ map (λ r. r.estimate) rows
+handed_estimates = rows_with_shares_keep with_figure (λ r. r.estimate) (λ r s. refl)
 
-pub handed_shares : (rows : List ReadingDay) (ss : List ℕ) → length ss ≡ length rows → map (λ r. r.share) (handed with_share rows ss) ≡ ss
-handed_shares = handed_shows with_share (λ r. r.share) (λ r s. refl)
+pub handed_shares : (rows : List ReadingDay) (ss : List ℕ) → length ss ≡ length rows → map (λ r. r.share) (rows_with_shares with_share rows ss) ≡ ss
+handed_shares = rows_with_shares_show with_share (λ r. r.share) (λ r s. refl)
 
-pub handed_weights : (rows : List ReadingDay) (ss : List ℕ) → map (λ r. r.weight) (handed with_share rows ss) ≡ map (λ r. r.weight) rows
-handed_weights = handed_keeps with_share (λ r. r.weight) (λ r s. refl)
+pub handed_weights : (rows : List ReadingDay) (ss : List ℕ) → map (λ r. r.weight) (rows_with_shares with_share rows ss) ≡ map (λ r. r.weight) rows
+handed_weights = rows_with_shares_keep with_share (λ r. r.weight) (λ r s. refl)
 
 -- Cells of a list laid day by day, by point.
 

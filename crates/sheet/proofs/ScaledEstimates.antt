@@ -3,20 +3,20 @@ use Rattle.std.proofs.Common.{◌≡◌, ℕ, ◌+◌, ◌-◌, ◌*◌, ◌<◌
 use Rattle.std.proofs.lemmas.List.{get_or-set_other, get_or-set_same, length-map, map-set}
 use Rattle.std.proofs.lemmas.Bool.{and_from, cases_eq, cases_lt, cond-true, le-leb, le-ltb, lt-ltb}
 use Rattle.std.specs.Result.{IsOk}
-use Rattle.rules.specs.Figures.{exceeded}
 use Rattle.allocation.specs.Loads.{largest_gate}
-use Rattle.terms.specs.Answers.{AcceptedWhen}
 use Rattle.terms.specs.declared.refusal.Refusal.{Refusal}
-use Rattle.allocation.specs.Kinds.{with_figure}
-use Rattle.allocation.specs.Laws.{length_shares}
-use Rattle.allocation.specs.Limits.{largest_estimate, largest_product}
-use Rattle.allocation.specs.Rows.{handed}
+use Rattle.allocation.specs.ShareLaws.{length_shares}
+use Rattle.allocation.specs.SharingLimits.{largest_estimate, largest_product}
 use Rattle.allocation.specs.Sharing.{can_share, shares}
 use Rattle.allocation.specs.declared.estimated_point.EstimatedPoint.{EstimatedPoint}
 use Rattle.sheet.specs.DayWeights.{load_within}
 use Rattle.sheet.specs.Scaling.{estimates_of_points, figures_of_points, note_of, scaled_estimates}
 use Rattle.sheet.specs.declared.sheet.DayNote.TheVariants.{NothingKnown, NothingLeft}
 use Rattle.sheet.proofs.RowsByPlaces.{handed_figures}
+use Rattle.terms.specs.Answers.{IsAcceptedWhen}
+use Rattle.allocation.specs.EstimatedPoint.{with_figure}
+use Rattle.allocation.specs.Row.{rows_with_shares}
+use Rattle.rules.specs.Figures.{needs_scaling}
 
 -- a load can be shared over the estimates of a day's points, where some estimate is above 0
 load_shareable : (c n : ℕ) → c ≤ 1000000000 → n ≤ 256 → leb (c * n * 1000000) largest_product ≡ true
@@ -34,22 +34,22 @@ left_shareable load n supplied left total rows within is left_is few total_is so
     shareable left rows (omega (arith, small, left_is)) few (omega (arith, total_is, some))
 
 -- what is accepted by a test that passes is no refusal
-pub accepted_ok : {X : Type 0} (r : Result X Refusal) (ok : Bool) (n : ℕ) → ok ≡ true → AcceptedWhen r ok n → IsOk r
+pub accepted_ok : {X : Type 0} (r : Result X Refusal) (ok : Bool) (n : ℕ) → ok ≡ true → IsAcceptedWhen r ok n → IsOk r
 accepted_ok (Ok x) ok n passes answer = refl
 accepted_ok (Err e) ok n passes answer = absurd (rw passes at answer)
 
 -- rows that took their shares show them
 pub shared_figures : (c : ℕ) (rows new : List EstimatedPoint) → can_share largest_estimate c (estimates_of_points rows) ≡ true
-    → new ≡ cond (can_share largest_estimate c (estimates_of_points rows)) (handed with_figure rows (shares c (estimates_of_points rows))) rows → figures_of_points new ≡ shares c (estimates_of_points rows)
+    → new ≡ cond (can_share largest_estimate c (estimates_of_points rows)) (rows_with_shares with_figure rows (shares c (estimates_of_points rows))) rows → figures_of_points new ≡ shares c (estimates_of_points rows)
 shared_figures c rows new can is =
-    ap figures_of_points (is ∙ ap (λ t. cond t (handed with_figure rows (shares c (estimates_of_points rows))) rows) can)
+    ap figures_of_points (is ∙ ap (λ t. cond t (rows_with_shares with_figure rows (shares c (estimates_of_points rows))) rows) can)
     ∙ handed_figures rows (shares c (estimates_of_points rows)) (length_shares c (estimates_of_points rows) ∙ length-map rows (λ (row : EstimatedPoint). row.estimate))
 
 -- when a day is scaled_estimates, by numbers
-pub exceeds : (a g n : ℕ) → n < a + g → 0 < g → exceeded a g (Some n) ≡ true
+pub exceeds : (a g n : ℕ) → n < a + g → 0 < g → needs_scaling a g (Some n) ≡ true
 exceeds a g n above some = and_from _ _ (lt-ltb n (a + g) above) (lt-ltb 0 g some)
 
-pub scaled_by : (load : Option ℕ) (supplied : ℕ) (es figures : List ℕ) → exceeded supplied (sum es) load ≡ true → figures ≡ shares (unwrap_or load 0 - supplied) es → figures ≡ scaled_estimates load supplied es
+pub scaled_by : (load : Option ℕ) (supplied : ℕ) (es figures : List ℕ) → needs_scaling supplied (sum es) load ≡ true → figures ≡ shares (unwrap_or load 0 - supplied) es → figures ≡ scaled_estimates load supplied es
 scaled_by load supplied es figures exceeds is = is ∙ ap (λ t. cond t (shares (unwrap_or load 0 - supplied) es) es) (sym exceeds)
 
 -- and what is noted of it then
@@ -57,7 +57,7 @@ pub noted_scaled : (load : Option ℕ) (supplied n left : ℕ) (es : List ℕ) �
     → cond (ltb 0 left) NothingKnown NothingLeft ≡ note_of load supplied es
 noted_scaled load supplied n left es is left_is above some =
     ap (λ t. cond t NothingKnown NothingLeft) (test ∙ ap (λ o. ltb supplied (unwrap_or o 0)) (sym is))
-    ∙ sym (cond-true (exceeded supplied (sum es) load) _ _ (ap (exceeded supplied (sum es)) is ∙ exceeds supplied (sum es) n above some))
+    ∙ sym (cond-true (needs_scaling supplied (sum es) load) _ _ (ap (needs_scaling supplied (sum es)) is ∙ exceeds supplied (sum es) n above some))
   where
     test : ltb 0 left ≡ ltb supplied n
     test =

@@ -4,9 +4,9 @@ use Rattle.terms.specs.declared.reading_type.ReadingType.{ReadingType}
 use Rattle.terms.specs.declared.reading_type.ReadingType.TheVariants.{Actual, CustomersOwn, Estimated, Substituted}
 use Rattle.rules.specs.History.{History, Setting}
 use Rattle.rules.specs.declared.entry.Reading.{Reading}
-use Rattle.rules.specs.Held.{Held}
-use Rattle.ledger.specs.Told.{Follows}
-use Rattle.ledger.specs.declared.state.Ledger.{Ledger}
+use Rattle.ledger.specs.declared.ledger.Ledger.{Ledger}
+use Rattle.rules.specs.Readings.{Holds}
+use Rattle.ledger.specs.Ledger.{IsLedgerOf}
 
 -- the types of readings by number
 abbrev pub type_number : ReadingType → ℕ
@@ -30,8 +30,8 @@ pub record PlacesHoldHeldReadings : Type 0 where
   -- what stands in a place is held, and what is held stands in a place
   pub placed_is_held :
       {s : Setting} {h : History} {l : Ledger}
-      → Follows s h l → (k : ℕ) (r : Reading) → slice_index_or (vec_items l.places) k None ≡ Some r → Held h r
+      → IsLedgerOf s h l → (k : ℕ) (r : Reading) → slice_index_or (vec_items l.places) k None ≡ Some r → Holds h r
   pub held_is_placed :
       {s : Setting} {h : History} {l : Ledger}
-      → Follows s h l → (r : Reading) → Held h r
+      → IsLedgerOf s h l → (r : Reading) → Holds h r
       → (k : ℕ) × (k < length (vec_items l.places)) × (slice_index_or (vec_items l.places) k None ≡ Some r)

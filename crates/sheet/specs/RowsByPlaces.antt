@@ -1,10 +1,11 @@
 -- Lists by their places: rows, and tables laid day by day.
 use Rattle.std.specs.Prelude.{◌≡◌, ℕ, ◌+◌, ◌-◌, ◌*◌, ◌<◌, ◌≤◌, List, map, length, drop, slice_index}
 use Rattle.std.specs.List.{range_with_len}
-use Rattle.allocation.specs.Kinds.{with_figure, with_share}
-use Rattle.allocation.specs.Rows.{handed}
 use Rattle.allocation.specs.declared.estimated_point.EstimatedPoint.{EstimatedPoint}
 use Rattle.allocation.specs.declared.reading_day.ReadingDay.{ReadingDay}
+use Rattle.allocation.specs.EstimatedPoint.{with_figure}
+use Rattle.allocation.specs.ReadingDay.{with_share}
+use Rattle.allocation.specs.Row.{rows_with_shares}
 
 pub record RowsByPlaces : Type 0 where
   -- two lists that agree from place n on have the same rest, and a list is known by its places
@@ -17,16 +18,16 @@ pub record RowsByPlaces : Type 0 where
   -- rows that have taken their shares show them, and weigh what they did
   pub handed_figures :
       (rows : List EstimatedPoint) (ss : List ℕ)
-      → length ss ≡ length rows → map (λ r. r.figure) (handed with_figure rows ss) ≡ ss
+      → length ss ≡ length rows → map (λ r. r.figure) (rows_with_shares with_figure rows ss) ≡ ss
   pub handed_estimates :
       (rows : List EstimatedPoint) (ss : List ℕ)
-      → map (λ r. r.estimate) (handed with_figure rows ss) ≡ map (λ r. r.estimate) rows
+      → map (λ r. r.estimate) (rows_with_shares with_figure rows ss) ≡ map (λ r. r.estimate) rows
   pub handed_shares :
       (rows : List ReadingDay) (ss : List ℕ)
-      → length ss ≡ length rows → map (λ r. r.share) (handed with_share rows ss) ≡ ss
+      → length ss ≡ length rows → map (λ r. r.share) (rows_with_shares with_share rows ss) ≡ ss
   pub handed_weights :
       (rows : List ReadingDay) (ss : List ℕ)
-      → map (λ r. r.weight) (handed with_share rows ss) ≡ map (λ r. r.weight) rows
+      → map (λ r. r.weight) (rows_with_shares with_share rows ss) ≡ map (λ r. r.weight) rows
   -- in a list laid day by day, by point, each point and day has a place of its own, between those of other days
   pub place_apart :
       (points p q d e : ℕ)

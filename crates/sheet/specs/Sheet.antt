@@ -3,11 +3,11 @@ use Rattle.std.specs.Prelude.{◌≡◌, ℕ, ◌+◌, ◌-◌, ◌*◌, ◌^◌
 use Rattle.std.specs.List.{range_with_len}
 use Rattle.std.specs.declared.alloc.Global.{Global}
 use Rattle.estimators.specs.Limits.{last_day, last_point}
-use Rattle.rules.specs.Calls.{largest_energy}
 use Rattle.rules.specs.declared.entry.Reading.{Reading}
 use Rattle.sheet.specs.declared.sheet.DayNote.TheVariants.{EstimatesShown, NothingEstimated, NothingKnown, NothingLeft}
 use Rattle.sheet.specs.declared.sheet.DayNote.{DayNote}
 use Rattle.sheet.specs.declared.sheet.Sheet.{Sheet}
+use Rattle.terms.specs.Limits.{largest_energy}
 
 -- a sheet can have so many days and points in a list of so many places
 abbrev pub can_open_sheet : ℕ → ℕ → ℕ → Bool

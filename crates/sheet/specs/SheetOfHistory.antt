@@ -1,16 +1,12 @@
 -- What a sheet knows of a history and what it shows of it, and when it is the sheet of a history.
 use Rattle.std.specs.Prelude.{◌≡◌, ℕ, ◌+◌, ◌*◌, ◌<◌, ◌≤◌, true, false, if◌then◌else◌, List, [], ◌∷◌, drop, is_some, Some, None, vec_items, slice_index_or}
 use Rattle.estimators.specs.Meaning.{Meaning}
-use Rattle.rules.specs.Calls.{Lawful}
-use Rattle.rules.specs.Figures.{active, estimate, estimate_counted, estimates_sum, figure, load, share_on, supplied}
-use Rattle.rules.specs.History.{History, Setting, covering, covers}
-use Rattle.rules.specs.LoadMoved.{LoadMoved}
-use Rattle.rules.specs.Readings.{joined}
+use Rattle.rules.specs.Figures.{estimate, estimates_sum, figure, load, share_on, is_active, counted_estimate, supplied_figure}
+use Rattle.rules.specs.History.{History, Setting, covers, covering_reading}
 use Rattle.rules.specs.declared.entry.Entry.{Entry}
 use Rattle.rules.specs.declared.entry.Entry.TheVariants.{DegreeDaysEntered}
 use Rattle.rules.specs.declared.entry.Reading.{Reading}
-use Rattle.ledger.specs.Told.{Follows}
-use Rattle.ledger.specs.declared.state.Ledger.{Ledger}
+use Rattle.ledger.specs.declared.ledger.Ledger.{Ledger}
 use Rattle.sheet.specs.Account.{HasBoundedEstimates}
 use Rattle.sheet.specs.Coverage.{CoversTo}
 use Rattle.sheet.specs.Sheet.{figure_at}
@@ -19,17 +15,21 @@ use Rattle.sheet.specs.declared.sheet.DayNote.{DayNote}
 use Rattle.sheet.specs.declared.sheet.PointStatus.TheVariants.{Absent, Covered, Estimated}
 use Rattle.sheet.specs.declared.sheet.PointStatus.{PointStatus}
 use Rattle.sheet.specs.declared.sheet.Sheet.{Sheet}
+use Rattle.rules.specs.Calls.{IsLawful}
+use Rattle.rules.specs.FigureLaws.{DiffersInLoad}
+use Rattle.rules.specs.Readings.{are_joined}
+use Rattle.ledger.specs.Ledger.{IsLedgerOf}
 
 -- the status of a point on a day: covered where a reading covers it, else estimated from its start day on
 abbrev pub status_of : History → ℕ → ℕ → PointStatus
-status_of h p d = if is_some (covering h p d) then Covered else (if active h p d then Estimated else Absent)
+status_of h p d = if is_some (covering_reading h p d) then Covered else (if is_active h p d then Estimated else Absent)
 
 -- What a sheet shows of a day.
 
 -- its supplied figures
 abbrev pub ShowsSupplied : Setting → History → Sheet → ℕ → Type 0
 ShowsSupplied s h sheet d =
-    (p x : ℕ) → 1 ≤ p → p ≤ s.points → supplied s h p d ≡ Some x → figure_at sheet p d ≡ x
+    (p x : ℕ) → 1 ≤ p → p ≤ s.points → supplied_figure s h p d ≡ Some x → figure_at sheet p d ≡ x
 
 -- all its figures
 abbrev pub ShowsDay : Setting → History → Sheet → ℕ → Type 0
@@ -38,12 +38,12 @@ ShowsDay s h sheet d = (p : ℕ) → 1 ≤ p → p ≤ s.points → figure_at sh
 -- of each point that no reading covers its estimate as it is
 abbrev pub ShowsEstimates : Setting → History → Sheet → ℕ → Type 0
 ShowsEstimates s h sheet d =
-    (p : ℕ) → 1 ≤ p → p ≤ s.points → is_some (covering h p d) ≡ false → figure_at sheet p d ≡ estimate_counted s h p d
+    (p : ℕ) → 1 ≤ p → p ≤ s.points → is_some (covering_reading h p d) ≡ false → figure_at sheet p d ≡ counted_estimate s h p d
 
 -- of each point that no reading covers 0
 abbrev pub ShowsNothing : Setting → History → Sheet → ℕ → Type 0
 ShowsNothing s h sheet d =
-    (p : ℕ) → 1 ≤ p → p ≤ s.points → is_some (covering h p d) ≡ false → figure_at sheet p d ≡ 0
+    (p : ℕ) → 1 ≤ p → p ≤ s.points → is_some (covering_reading h p d) ≡ false → figure_at sheet p d ≡ 0
 
 -- What a sheet notes of its days, so that most of those whose figures stand are not settled again.
 
@@ -77,13 +77,13 @@ ShowsShares s h r old new =
 -- the readings over day g show their shares, all other figures stand, and the days joined to g lie between
 -- two days
 pub record ShowsSharesOver (s : Setting) (h : History) (g from to : ℕ) (old new : Sheet) : Type 0 where
-  pub shared : (p d : ℕ) (r : Reading) → covering h p d ≡ Some r → covers r r.point g ≡ true
+  pub shared : (p d : ℕ) (r : Reading) → covering_reading h p d ≡ Some r → covers r r.point g ≡ true
       → figure_at new p d ≡ share_on s h d r
-  pub kept : (p d : ℕ) (r : Reading) → covering h p d ≡ Some r → covers r r.point g ≡ false
+  pub kept : (p d : ℕ) (r : Reading) → covering_reading h p d ≡ Some r → covers r r.point g ≡ false
       → figure_at new p d ≡ figure_at old p d
-  pub free : (p d : ℕ) → 1 ≤ p → p ≤ s.points → is_some (covering h p d) ≡ false
+  pub free : (p d : ℕ) → 1 ≤ p → p ≤ s.points → is_some (covering_reading h p d) ≡ false
       → figure_at new p d ≡ figure_at old p d
-  pub between : (d : ℕ) → joined h d g ≡ true → (from ≤ d) × (d < to)
+  pub between : (d : ℕ) → are_joined h d g ≡ true → (from ≤ d) × (d < to)
 
 -- The sheet of a history.
 
@@ -97,8 +97,8 @@ MeansEstimates s h meaning = (d : ℕ) → MeansEstimatesOn s h d meaning
 -- a ledger is that of a history, and a sheet of its days and points knows the load of each day and up to
 -- which day each point is covered
 pub record KnowsHistory (s : Setting) (h : History) (ledger : Ledger) (sheet : Sheet) : Type 0 where
-  pub lawful : Lawful s h
-  pub follows : Follows s h ledger
+  pub lawful : IsLawful s h
+  pub follows : IsLedgerOf s h ledger
   pub days : sheet.days ≡ s.days
   pub points : sheet.points ≡ s.points
   pub loads : (d : ℕ) → d < s.days → slice_index_or sheet.loads d None ≡ load s h d
@@ -142,14 +142,14 @@ OpensSheet days points list sheet =
 abbrev pub TakesEntry : Entry → Ledger → Meaning → Sheet → Sheet → Type 0
 TakesEntry entry ledger meaning old new =
     (s : Setting) (rest : List ℕ) (h : History)
-    → Lawful s (entry ∷ h) → Follows s (entry ∷ h) ledger → MeansEstimates s (entry ∷ h) meaning
+    → IsLawful s (entry ∷ h) → IsLedgerOf s (entry ∷ h) ledger → MeansEstimates s (entry ∷ h) meaning
     → IsSheetOf s rest h old → IsSheetOf s rest (entry ∷ h) new
 
 -- the same of a degree-day count, whichever it is
 abbrev pub TakesCount : ℕ → Ledger → Meaning → Sheet → Sheet → Type 0
 TakesCount day ledger meaning old new =
     (s : Setting) (rest : List ℕ) (h : History) (count : ℕ)
-    → Lawful s (DegreeDaysEntered day count ∷ h) → Follows s (DegreeDaysEntered day count ∷ h) ledger
+    → IsLawful s (DegreeDaysEntered day count ∷ h) → IsLedgerOf s (DegreeDaysEntered day count ∷ h) ledger
     → MeansEstimates s (DegreeDaysEntered day count ∷ h) meaning
     → IsSheetOf s rest h old → IsSheetOf s rest (DegreeDaysEntered day count ∷ h) new
 
@@ -157,5 +157,5 @@ TakesCount day ledger meaning old new =
 abbrev pub TakesLoad : ℕ → Ledger → Meaning → Sheet → Sheet → Type 0
 TakesLoad day ledger meaning old new =
     (s : Setting) (rest : List ℕ) (h longer : History)
-    → LoadMoved s h longer day → Follows s longer ledger → MeansEstimates s longer meaning → day < s.days
+    → DiffersInLoad s h longer day → IsLedgerOf s longer ledger → MeansEstimates s longer meaning → day < s.days
     → IsSheetOf s rest h old → IsSheetOf s rest longer new

@@ -6,12 +6,12 @@ ghost use Rattle.rules.specs.Figures as law;
 ghost use Rattle.rules.specs.History.{History, Setting, covers};
 ghost use Rattle.rules.specs.declared.entry.Entry.TheVariants.{Enrolled, ReadingTaken};
 ghost use Rattle.rules.specs.declared.entry.Reading.{Reading};
-ghost use Rattle.ledger.specs.Told.{Follows};
-ghost use Rattle.ledger.specs.declared.state.Ledger.{Ledger};
+ghost use Rattle.ledger.specs.declared.ledger.Ledger.{Ledger};
 ghost use Rattle.sheet.specs.DayWeights.{shares_of_days, weight_of_load};
 ghost use Rattle.sheet.specs.Sheet.{ChangesOnlyDays, IsDayOfSheet, IsPointOfSheet, LiesInSheet, SetsCover, SetsLoad, figure_at};
 ghost use Rattle.sheet.specs.SheetOfHistory.{ForKnown, ShowsShares, ShowsSharesOver, TakesCount, TakesEntry, TakesLoad};
 ghost use Rattle.sheet.specs.declared.sheet.DayNote.TheVariants.{NothingKnown};
+ghost use Rattle.ledger.specs.Ledger.{IsLedgerOf};
 
 use super::day_range::DayRange;
 use super::sheet::{DayNote, Sheet};
@@ -97,7 +97,7 @@ impl Sheet {
         ensures within { day < length self.old.loads }
         ensures days { self.new.days ≡ self.old.days }
         ensures notes { self.new.notes ≡ self.old.notes }
-        ensures after { (s : Setting) (h : History) → Follows s h ledger.now
+        ensures after { (s : Setting) (h : History) → IsLedgerOf s h ledger.now
             → SetsLoad day (law.load s h day) self.old self.new }
     {
         let load = ledger.load(day);

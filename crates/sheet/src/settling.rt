@@ -5,8 +5,8 @@ ghost use Rattle.std.specs.Option.{unwrap_or};
 ghost use Rattle.allocation.specs.Loads.{largest_gate};
 ghost use Rattle.estimators.specs.Limits.{greatest_figure, last_point};
 ghost use Rattle.rules.specs.Figures as law;
-ghost use Rattle.rules.specs.History.{History, Setting, covering};
-ghost use Rattle.ledger.specs.declared.state.Ledger.{Ledger};
+ghost use Rattle.rules.specs.History.{History, Setting, covering_reading};
+ghost use Rattle.ledger.specs.declared.ledger.Ledger.{Ledger};
 ghost use Rattle.sheet.specs.Scaling.{estimates_of_points, figures_of_points, note_of, scaled_estimates};
 ghost use Rattle.sheet.specs.Sheet as sheets;
 ghost use Rattle.sheet.specs.Sheet.{ChangesOnlyDays, ChangesOnlyNotes, IsDayOfSheet, IsInSheet, SetsNote, stands_by_note};
@@ -103,10 +103,10 @@ impl Sheet {
         ensures within { IfSome result.estimate (λ x. x ≤ greatest_figure) }
         ensures supplied { ForKnown sources.now.ledger.now self.now (λ s h.
             result.supplied
-            ≡ (if is_some (covering h point day) then sheets.figure_at self.now point day else 0)) }
+            ≡ (if is_some (covering_reading h point day) then sheets.figure_at self.now point day else 0)) }
         ensures estimate { ForKnownOn day sources.now.ledger.now
             (E.Estimator.meaning sources.now.estimator.now) self.now (λ s h.
-            unwrap_or result.estimate 0 ≡ law.estimate_counted s h point day) }
+            unwrap_or result.estimate 0 ≡ law.counted_estimate s h point day) }
     {
         let mut part = Contribution {
             supplied: 0,
@@ -135,7 +135,7 @@ impl Sheet {
             estimates_of_points points.new ≡ law.estimates s h day) }
         ensures supplied { ForKnown sources.now.ledger.now self.now (λ s h.
             result
-            ≡ min (sheets.sum_where (λ p. is_some (covering h p day)) self.now day self.now.points) (2 ^ 64 - 1)) }
+            ≡ min (sheets.sum_where (λ p. is_some (covering_reading h p day)) self.now day self.now.points) (2 ^ 64 - 1)) }
     {
         let mut supplied = 0u64;
         for (i, row) in points.iter_mut().enumerate() {
@@ -154,7 +154,7 @@ impl Sheet {
         ensures law { ForKnown ledger.now self.old (λ s h.
             (p : ℕ) → 1 ≤ p → p ≤ s.points
             → sheets.figure_at self.new p day
-            ≡ (if is_some (covering h p day)
+            ≡ (if is_some (covering_reading h p day)
             then sheets.figure_at self.old p day
             else slice_index (figures_of_points points.now) (p - 1))) }
     {
@@ -177,7 +177,7 @@ impl Sheet {
         ensures { ForKnownOn day sources.now.ledger.now
             (E.Estimator.meaning sources.now.estimator.now) self.now (λ s h.
             ShowsSupplied s h self.now day
-            → (figures_of_points points.new ≡ law.generated s h day)
+            → (figures_of_points points.new ≡ law.generated_figures s h day)
             × (result ≡ note_of (law.load s h day) (law.supplied_sum s h day) (law.estimates s h day))) }
     {
         let supplied = self.gather(sources, day, points);

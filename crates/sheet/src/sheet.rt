@@ -2,7 +2,7 @@ ghost use Rattle.std.specs.Prelude.{◌≡◌, ℕ, ◌+◌, ◌-◌, ◌*◌, �
 ghost use Rattle.std.specs.List.{list_all};
 ghost use Rattle.estimators.specs.Limits.{last_day, last_point};
 ghost use Rattle.rules.specs.Figures as law;
-ghost use Rattle.rules.specs.History.{covering, enrolment_of};
+ghost use Rattle.rules.specs.History.{enrolment_of, covering_reading};
 ghost use Rattle.sheet.specs.DayWeights.{load_within, weight_of_load, weights_of_days};
 
 use super::account::Account;
@@ -221,7 +221,7 @@ impl Sheet {
     // Whether a reading covers a day of a point of the sheet.
     pub(crate) fn is_covered(&self, ledger: &Ledger, point: u32, day: u32) -> bool
         requires { IsPointOfSheet self.now point }
-        ensures { ForKnown ledger.now self.now (λ s h. result ≡ is_some (covering h point day)) }
+        ensures { ForKnown ledger.now self.now (λ s h. result ≡ is_some (covering_reading h point day)) }
     {
         matches!(self.status(ledger, point, day), PointStatus::Covered)
     }
@@ -229,7 +229,7 @@ impl Sheet {
     // Whether a point of the sheet is estimated on a day.
     fn is_estimated(&self, ledger: &Ledger, point: u32, day: u32) -> bool
         requires { IsPointOfSheet self.now point }
-        ensures { ForKnown ledger.now self.now (λ s h. result ≡ law.estimated h point day) }
+        ensures { ForKnown ledger.now self.now (λ s h. result ≡ law.is_estimated h point day) }
     {
         matches!(self.status(ledger, point, day), PointStatus::Estimated)
     }
@@ -237,7 +237,7 @@ impl Sheet {
     // Whether a point of the sheet is a retailer's.
     fn belongs_to(&self, ledger: &Ledger, point: u32, retailer: u32) -> bool
         requires { IsPointOfSheet self.now point }
-        ensures { ForKnown ledger.now self.now (λ s h. result ≡ law.belongs (enrolment_of h point) retailer) }
+        ensures { ForKnown ledger.now self.now (λ s h. result ≡ law.belongs_to (enrolment_of h point) retailer) }
     {
         ledger
             .enrolment(point)
@@ -249,7 +249,7 @@ impl Sheet {
         requires { IsInSheet self.now point day }
         ensures { ForKnownOn day sources.now.ledger.now
             (E.Estimator.meaning sources.now.estimator.now) self.now (λ s h.
-            result ≡ law.estimated h point day && not (is_some (law.estimate s h point day))) }
+            result ≡ law.is_estimated h point day && not (is_some (law.estimate s h point day))) }
     {
         self.is_estimated(sources.ledger, point, day) && sources.estimate_of(point, day).is_none()
     }
@@ -259,7 +259,7 @@ impl Sheet {
         requires { IsDayOfSheet self.now day }
         ensures { ForKnownOn day sources.now.ledger.now
             (E.Estimator.meaning sources.now.estimator.now) self.now (λ s h.
-            result ≡ law.missing s h day) }
+            result ≡ law.missing_count s h day) }
     {
         (1..self.points + 1)
             .filter(|point| self.is_missing(sources, *point, day))

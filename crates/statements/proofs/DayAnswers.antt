@@ -2,16 +2,16 @@
 use Rattle.std.proofs.Common.{◌≡◌, ℕ, ◌+◌, ◌<◌, Bool, true, false, cond, not, ltb, is_some, Some, None, Ok, Err, Option, Result, unwrap_or, sym, refl, ap, ◌∙◌}
 use Rattle.std.specs.Result.{MatchResult}
 use Rattle.std.proofs.lemmas.Bool.{false≢true, lt-ltb}
-use Rattle.calendar.specs.Digits.{date_numbered}
 use Rattle.rules.specs.Figures.{load, remainder, retailer_sum}
-use Rattle.terms.specs.Numbers.{day_named, number_of}
+use Rattle.terms.specs.Refusal.{number_of, date_named}
 use Rattle.terms.specs.declared.refusal.Refusal.{Refusal}
-use Rattle.sheet.specs.Asking.{account}
-use Rattle.sheet.specs.declared.day_figures.DayFigures.{DayFigures}
 use Rattle.book.specs.Case.{Case}
 use Rattle.book.specs.Days.{account_named, account_refusal, day_refusal, names_none}
 use Rattle.book.specs.Replies.{IsJudgedBy}
 use Rattle.statements.specs.Sums.{remainder_on}
+use Rattle.calendar.specs.Digits.{date_of_day_number}
+use Rattle.sheet.specs.Account.{account}
+use Rattle.sheet.specs.declared.account.Account.{Account}
 
 -- a day of the book, by whether it has a load
 with_load : (inside loaded : Bool) → inside ≡ true → ◌≡◌ {A = Option ℕ} (cond (not inside) (Some 5) (cond (not loaded) (Some 14) None)) None → loaded ≡ true
@@ -38,17 +38,17 @@ module _ (c : Case) (day : ℕ) (within : day < c.setting.days) where
   retailer_given retailer (Err e) judged = absurd (never_outside (ltb day c.setting.days) (number_of e) inside judged.0)
 
   -- a day with a load tells its remainder, and another is refused with its date
-  pub day_given : (r : Result DayFigures Refusal) → IsJudgedBy (account_refusal c.setting c.history day) (account_named c.setting day) (λ x. x ≡ account c.setting c.history day (unwrap_or (load c.setting c.history day) 0)) r
+  pub day_given : (r : Result Account Refusal) → IsJudgedBy (account_refusal c.setting c.history day) (account_named c.setting day) (λ x. x ≡ account c.setting c.history day (unwrap_or (load c.setting c.history day) 0)) r
       → MatchResult r (λ x. (is_some (load c.setting c.history day) ≡ true) × (x.remainder ≡ remainder_on c.setting c.history day))
-      (λ e. (is_some (load c.setting c.history day) ≡ false) × (number_of e ≡ 14) × (day_named e ≡ Some (date_numbered (c.setting.first + day))))
+      (λ e. (is_some (load c.setting c.history day) ≡ false) × (number_of e ≡ 14) × (date_named e ≡ Some (date_of_day_number (c.setting.first + day))))
   day_given (Ok x) judged =
-      (with_load (ltb day c.setting.days) (is_some (load c.setting c.history day)) inside judged.0, ap (λ (a : DayFigures). a.remainder) judged.1)
+      (with_load (ltb day c.setting.days) (is_some (load c.setting c.history day)) inside judged.0, ap (λ (a : Account). a.remainder) judged.1)
   day_given (Err e) judged =
       let lacks = without_load (ltb day c.setting.days) (is_some (load c.setting c.history day)) (number_of e) inside judged.0 in
       (lacks.0, lacks.1, judged.1 ∙ ap (account_named c.setting day) lacks.1)
 
   -- the remainder of a day with a load
-  pub remainder_given : (n : ℕ) (r : Result DayFigures Refusal) → load c.setting c.history day ≡ Some n → IsJudgedBy (account_refusal c.setting c.history day) (account_named c.setting day) (λ x. x ≡ account c.setting c.history day (unwrap_or (load c.setting c.history day) 0)) r
+  pub remainder_given : (n : ℕ) (r : Result Account Refusal) → load c.setting c.history day ≡ Some n → IsJudgedBy (account_refusal c.setting c.history day) (account_named c.setting day) (λ x. x ≡ account c.setting c.history day (unwrap_or (load c.setting c.history day) 0)) r
       → MatchResult r (λ x. x.remainder ≡ remainder c.setting c.history day n) (λ e. ⊥)
   remainder_given n (Ok x) loaded judged = (day_given (Ok x) judged).1 ∙ ap (λ o. remainder c.setting c.history day (unwrap_or o 0)) loaded
   remainder_given n (Err e) loaded judged = false≢true (sym (day_given (Err e) judged).0 ∙ ap is_some loaded)

@@ -1,8 +1,8 @@
 -- In a book that follows a history no sum comes near the largest. Assumes nothing.
 use Rattle.std.proofs.Common.{◌≡◌, ℕ, ◌+◌, ◌-◌, ◌≤◌, cond, Some, None, Option, unwrap_or, refl, arith}
 use Rattle.std.proofs.lemmas.Bool.{cond_both}
-use Rattle.rules.specs.Figures.{belongs, estimate, figure, figures_sum, load, retailer_sum, under_count}
-use Rattle.rules.specs.History.{count_of, enrolment_of}
+use Rattle.rules.specs.Figures.{estimate, figure, figures_sum, load, retailer_sum, belongs_to, estimate_under}
+use Rattle.rules.specs.History.{enrolment_of, degree_day_count}
 use Rattle.rules.proofs.Bounds.{figure_bounded, load_bounded, sum_bounded}
 use Rattle.book.specs.Book.{IsBookOf}
 use Rattle.book.specs.Case.{Case}
@@ -22,9 +22,9 @@ module _ {c : Case} {b : Book} {m : Meanings} (f : IsBookOf c b m) where
 
   -- estimates keep within their limit
   estimate_limited : (d p x : ℕ) → estimate c.setting c.history p d ≡ Some x → x ≤ 1000000
-  estimate_limited d p x is = go (count_of c.history d) is
+  estimate_limited d p x is = go (degree_day_count c.history d) is
     where
-      go : (o : Option ℕ) → under_count c.setting o p d ≡ Some x → x ≤ 1000000
+      go : (o : Option ℕ) → estimate_under c.setting o p d ≡ Some x → x ≤ 1000000
       go None is = f.limited.0 p (d + 1) x is
       go (Some count) is = f.limited.1 count p (d + 1) x is
 
@@ -33,8 +33,8 @@ module _ {c : Case} {b : Book} {m : Meanings} (f : IsBookOf c b m) where
       omega (
         arith,
         few_points,
-        sum_bounded (λ p. cond (belongs (enrolment_of c.history p) k) (figure c.setting c.history p d) 0) 10000000 1 c.setting.points
-            (λ p low high. cond_both (belongs (enrolment_of c.history p) k) (figure c.setting c.history p d) 0 (λ (x : ℕ). x ≤ 10000000)
+        sum_bounded (λ p. cond (belongs_to (enrolment_of c.history p) k) (figure c.setting c.history p d) 0) 10000000 1 c.setting.points
+            (λ p low high. cond_both (belongs_to (enrolment_of c.history p) k) (figure c.setting c.history p d) 0 (λ (x : ℕ). x ≤ 10000000)
             (λ _. figure_bounded c.setting c.history f.lawful d (estimate_limited d) p) (λ _. omega arith)),
       )
 

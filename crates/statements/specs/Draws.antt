@@ -2,10 +2,9 @@
 use Rattle.std.specs.Prelude.{◌≡◌, ℕ, ◌+◌, ◌<◌, ◌≤◌, [], ◌∷◌, is_some, Some, None, Ok, Err, Option, Result, ◌==◌, nat_lt, if◌then◌else◌}
 use Rattle.std.specs.List.{range_with_len}
 use Rattle.std.specs.Result.{IsOkAnd}
-use Rattle.rules.specs.Calls.{covered_named, first_holding, first_without_load}
 use Rattle.rules.specs.Figures.{load, remainder}
 use Rattle.rules.specs.History.{History, Setting}
-use Rattle.terms.specs.Numbers.{number_of, day_named}
+use Rattle.terms.specs.Refusal.{number_of, date_named}
 use Rattle.terms.specs.declared.refusal.Refusal.{Refusal}
 use Rattle.book.specs.Book.{InEveryCase}
 use Rattle.book.specs.Days.{AreDaysOf, span_is_backwards, span_leaves_book, span_names_no_date}
@@ -18,32 +17,33 @@ use Rattle.statements.specs.Sums.{SumsOf, remainder_over, retailer_over}
 use Rattle.statements.specs.declared.statement.Span.{Span}
 use Rattle.statements.specs.declared.statement.Statement.{Statement}
 use Rattle.statements.specs.declared.sums.Sums.{Sums}
+use Rattle.rules.specs.Calls.{date_of_day, first_refusal, first_day_without_load}
 
 -- the refusal of a draw over a span into a list of so many places, of which so many are wanted; none where it
 -- is drawn: 14 where a day has no load, 15 where the list is too short
 abbrev pub draw_refusal : Setting → History → Span → ℕ → ℕ → Option ℕ
 draw_refusal s h span wanted places =
-    first_holding
+    first_refusal
     (record { number = 4; holds = span_names_no_date span.first span.last }
     ∷ record { number = 5; holds = span_leaves_book s span.first span.last }
     ∷ record { number = 10; holds = span_is_backwards span.first span.last }
-    ∷ record { number = 14; holds = is_some (first_without_load s h (span_days s span)) }
+    ∷ record { number = 14; holds = is_some (first_day_without_load s h (span_days s span)) }
     ∷ record { number = 15; holds = nat_lt places wanted } ∷ [])
 
 -- the day that a refused draw names, by its date: the first of the span that has no load
 abbrev pub draw_named : Setting → History → Span → ℕ → Option ℕ
-draw_named s h span n = if n == 14 then covered_named s (first_without_load s h (span_days s span)) else None
+draw_named s h span n = if n == 14 then date_of_day s (first_day_without_load s h (span_days s span)) else None
 
 -- the part of both that speaks of loads, of n days from day d on
 abbrev pub loads_refusal : Setting → History → ℕ → ℕ → Option ℕ
-loads_refusal s h d n = if is_some (first_without_load s h (range_with_len d n)) then Some 14 else None
+loads_refusal s h d n = if is_some (first_day_without_load s h (range_with_len d n)) then Some 14 else None
 
 abbrev pub loads_named : Setting → History → ℕ → ℕ → ℕ → Option ℕ
-loads_named s h d n number = covered_named s (first_without_load s h (range_with_len d n))
+loads_named s h d n number = date_of_day s (first_day_without_load s h (range_with_len d n))
 
 -- each day of a span has a load
 abbrev pub HasLoads : Setting → History → Span → Type 0
-HasLoads s h span = first_without_load s h (span_days s span) ≡ None
+HasLoads s h span = first_day_without_load s h (span_days s span) ≡ None
 
 -- What the steps of a draw answer, in every case of the book.
 
@@ -115,7 +115,7 @@ pub record IsDrawRefused (span : Span) (wanted places : ℕ) (b : Book) (m : Mea
   pub law :
       InEveryCase b m
       (λ c. (draw_refusal c.setting c.history span wanted places ≡ Some (number_of e))
-      × (day_named e ≡ draw_named c.setting c.history span (number_of e)))
+      × (date_named e ≡ draw_named c.setting c.history span (number_of e)))
 
 -- the one or the other, given what a value says and why an error refuses
 abbrev pub DrawsByLaw :

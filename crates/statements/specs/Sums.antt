@@ -2,12 +2,12 @@
 use Rattle.std.specs.Prelude.{◌≡◌, ℕ, ◌-◌, ◌≤◌, map, sum, nat_lt, slice_index, if◌then◌else◌}
 use Rattle.std.specs.List.{range_with_len}
 use Rattle.std.specs.Option.{unwrap_or}
-use Rattle.rules.specs.Calls.{retailers}
 use Rattle.rules.specs.Figures.{excess, load, remainder, retailer_sum}
 use Rattle.rules.specs.History.{History, Setting}
 use Rattle.statements.specs.Spans.{sum_over_span}
 use Rattle.statements.specs.declared.statement.Span.{Span}
 use Rattle.statements.specs.declared.sums.Sums.{Sums}
+use Rattle.terms.specs.Limits.{retailers}
 
 -- what the figures of a retailer's points come to over a span
 abbrev pub retailer_over : Setting → History → ℕ → Span → ℕ

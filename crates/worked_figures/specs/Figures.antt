@@ -1,10 +1,10 @@
 -- Figures worked by hand.
 use Rattle.std.specs.Prelude.{[], ◌∷◌, map, ◌≡◌, pos, replicate}
 use Rattle.estimates.specs.Factors.{weather_figure}
-use Rattle.estimates.specs.Counts.{degree_days}
 use Rattle.estimates.specs.Usage.{hot_water_figure}
 use Rattle.allocation.specs.Loads.{adjusted, net_load, weight}
 use Rattle.allocation.specs.Sharing.{shares}
+use Rattle.estimates.specs.Observations.{degree_days}
 
 pub record WorkedFigures : Type 0 where
   -- 5,000 MJ in, 200 out, 900 through interval meters, a tenth unaccounted for

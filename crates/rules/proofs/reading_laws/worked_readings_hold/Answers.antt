@@ -1,13 +1,13 @@
 use Rattle.std.proofs.Common.{pos, refl}
 use Rattle.terms.specs.declared.reading_type.ReadingType.TheVariants.{Actual}
 use Rattle.calendar.specs.Digits.{is_date, day_number_of}
-use Rattle.calendar.specs.Gregorian.{leap, month_lengths, month_length, exists, days_before_month, year_length, days_before_year}
+use Rattle.calendar.specs.Gregorian.{month_lengths, month_length, days_before_month, year_length, days_before_year, is_leap, day_exists}
 use Rattle.rules.specs.declared.call.Call.TheVariants.{Enrol, EnterGate}
 use Rattle.rules.specs.WorkedReadings.{delivery}
 use Rattle.rules.proofs.reading_laws.worked_readings_hold.Goals as goal
 
 pub returns : goal.returns
-unfolding is_date day_number_of leap month_lengths month_length exists days_before_month year_length days_before_year
+unfolding is_date day_number_of is_leap month_lengths month_length day_exists days_before_month year_length days_before_year
 returns c = record {
   lawful = (
     (

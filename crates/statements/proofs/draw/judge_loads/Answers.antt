@@ -1,11 +1,11 @@
 use Rattle.std.proofs.Common.{◌≡◌, ℕ, ◌+◌, ◌<◌, cond, Some, None, Ok, Err, Option, sym, ap, ◌∙◌, true, is_some, arith}
 use borrow.Author.Count.{below_more}
 use Rattle.std.proofs.lemmas.Result.{err_from_is_err_and}
-use Rattle.rules.specs.Calls.{covered_named}
 use Rattle.rules.specs.Figures.{load}
 use Rattle.statements.proofs.DayAnswers.{day_given}
 use Rattle.statements.proofs.DayLoads.{first_unloaded, none_unloaded}
 use Rattle.statements.proofs.draw.judge_loads.Goals as goal
+use Rattle.rules.specs.Calls.{date_of_day}
 
 -- 14 where there is a day without a load
 abbrev refused_for : Option ℕ → Option ℕ
@@ -34,7 +34,7 @@ returns-in_err-day_account g c =
           let given = day_given case (days.first + place) inside (Err c.in_err-day_account.field-0.0) (c.in_err-day_account.ensures.law case f) in
           let found = first_unloaded case.setting case.history days.first days.count place c.loop-place-test.true (c.loop-place.invariant case f within) given.0 in (
             ap refused_for found ∙ ap Some (sym given.1),
-            given.2 ∙ ap (covered_named case.setting) (sym found),
+            given.2 ∙ ap (date_of_day case.setting) (sym found),
           );
     })
 

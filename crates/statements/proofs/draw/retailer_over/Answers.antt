@@ -1,5 +1,4 @@
 use Rattle.std.proofs.Common.{◌+◌, ◌<◌, Ok, ap, ◌∙◌, arith, rules}
-use Rattle.rules.specs.Calls.{place}
 use Rattle.rules.specs.Figures.{retailer_sum}
 use Rattle.book.specs.Days.{TellsSum}
 use Rattle.statements.specs.Spans.{span_day_count}
@@ -7,6 +6,7 @@ use Rattle.statements.proofs.DayAnswers.{retailer_given}
 use Rattle.statements.proofs.SpanSums.{whole}
 use Rattle.statements.proofs.SumLimits.{retailer_counts}
 use Rattle.statements.proofs.draw.retailer_over.Goals as goal
+use Rattle.rules.specs.Calls.{day_of_date}
 
 pub returns-clause-law : goal.returns-clause-law
 returns-clause-law c = record {
@@ -14,7 +14,7 @@ returns-clause-law c = record {
       let days = c.args.days in
       let retailer = c.args.retailer in
       let sums = retailer_sum case.setting case.history retailer in
-      let first = place case.setting span.first in
+      let first = day_of_date case.setting span.first in
       c.sum_over.ensures.law sums
       (λ k r below asked.
       let within : c.args.days.first + k < case.setting.days = omega (arith, its.first, its.count, its.within) in

@@ -1,5 +1,4 @@
 use Rattle.std.proofs.Common.{◌≡◌, ℕ, ◌+◌, ◌<◌, ◌≤◌, length, get_or}
-use Rattle.rules.specs.Calls.{retailers}
 use Rattle.book.specs.Book.{InEveryCase}
 use Rattle.book.specs.Days.{AreDaysOf}
 use Rattle.book.specs.Meanings.{meanings_of}
@@ -7,6 +6,7 @@ use Rattle.statements.specs.Limits.{largest_sum}
 use Rattle.statements.specs.Sums.{retailer_over}
 use Rattle.statements.specs.declared.statement.Span.{Span}
 use Rattle.statements.proofs.draw.sums_over.Given as goal
+use Rattle.terms.specs.Limits.{retailers}
 
 abbrev pub invariant-loop-place : goal.invariant-loop-place
 invariant-loop-place g l = record {

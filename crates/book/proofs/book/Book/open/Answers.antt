@@ -1,9 +1,9 @@
 use Rattle.std.proofs.Common.{refl}
-use Rattle.ledger.specs.declared.lists.Lists.{Lists}
-use Rattle.ledger.specs.Opened.{setting_of}
+use Rattle.ledger.specs.declared.ledger.Lists.{Lists}
 use Rattle.std.specs.Prelude.{vec_len}
 use Rattle.book.proofs.Opening.{opened_beyond, opened_ledger, opened_sheet}
 use Rattle.book.proofs.book.Book.open.Goals as goal
+use Rattle.ledger.specs.Opening.{setting_of}
 
 pub returns-in-Ok-clause-law : goal.returns-in-Ok-clause-law
 returns-in-Ok-clause-law c =

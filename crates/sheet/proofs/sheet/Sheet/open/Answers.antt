@@ -1,5 +1,5 @@
 use Rattle.std.proofs.Common.{◌≡◌, ℕ, ◌*◌, ◌++◌, map, take, drop, vec_items, sym, refl, ap, ◌∙◌, arith}
-use Rattle.ledger.proofs.Opened.{zero_of}
+use Rattle.ledger.proofs.Openings.{zero_of}
 use Rattle.sheet.proofs.EmptySheet.{opened_is_sheet}
 use Rattle.sheet.proofs.sheet.Sheet.open.Goals as goal
 

@@ -1,11 +1,11 @@
 use Rattle.std.proofs.Common.{◌≡◌, ℕ, ◌+◌, ◌≤◌, true, false, length, length-append, is_some, rules, sym, refl, ap, ◌∙◌, subst, arith}
 use Rattle.std.proofs.lemmas.List.{get_or-map}
-use Rattle.rules.specs.History.{covering}
 use Rattle.allocation.specs.declared.estimated_point.EstimatedPoint.{EstimatedPoint}
 use Rattle.sheet.specs.Sheet.{SetsFigure}
 use Rattle.sheet.proofs.Changes.{knows_only, written_only}
 use Rattle.sheet.proofs.GeneratedFigures.{numbered_turn, shown_kept, shown_written}
 use Rattle.sheet.proofs.sheet.Sheet.show_generated.Goals as goal
+use Rattle.rules.specs.History.{covering_reading}
 
 pub is_covered-requires : goal.is_covered-requires
 is_covered-requires c =
@@ -32,7 +32,7 @@ loop-point-preserved-then-not-is_covered c =
       written_only written only (omega arith) few (omega arith) (omega arith),
       there.notes ∙ c.loop-point.invariant.1,
       λ s h knows.
-          let none : is_some (covering h (length c.loop-point.yielded + 1) c.args.day) ≡ false = ap (λ (q : ℕ). is_some (covering h q c.args.day)) (sym at) ∙ sym (c.is_covered.ensures s h (knows_only only knows)) ∙ c.if-not-is_covered.true in
+          let none : is_some (covering_reading h (length c.loop-point.yielded + 1) c.args.day) ≡ false = ap (λ (q : ℕ). is_some (covering_reading h q c.args.day)) (sym at) ∙ sym (c.is_covered.ensures s h (knows_only only knows)) ∙ c.if-not-is_covered.true in
           shown_written (c.loop-point.invariant.2 s h knows) none (only.points ∙ knows.points) (omega (arith, few, only.points, knows.points)) written
           (sym (get_or-map (λ (r : EstimatedPoint). r.figure) c.args.points.now (length c.loop-point.yielded) row 0 turn.0 ∙ sym (ap (λ (r : EstimatedPoint). r.figure) (turn.2 row)))),
     )
@@ -46,6 +46,6 @@ loop-point-preserved c =
       only,
       c.loop-point.invariant.1,
       λ s h knows.
-          let covers : is_some (covering h (length c.loop-point.yielded + 1) c.args.day) ≡ true = ap (λ (q : ℕ). is_some (covering h q c.args.day)) (sym at) ∙ sym (c.is_covered.ensures s h (knows_only only knows)) ∙ c.if-not-is_covered.false in
+          let covers : is_some (covering_reading h (length c.loop-point.yielded + 1) c.args.day) ≡ true = ap (λ (q : ℕ). is_some (covering_reading h q c.args.day)) (sym at) ∙ sym (c.is_covered.ensures s h (knows_only only knows)) ∙ c.if-not-is_covered.false in
           shown_kept (c.loop-point.invariant.2 s h knows) covers refl,
     )

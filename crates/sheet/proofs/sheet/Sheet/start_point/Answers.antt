@@ -1,11 +1,11 @@
 use Rattle.std.proofs.Common.{ℕ, subst, arith}
 use Rattle.std.proofs.lemmas.Bool.Decides.{nat_tests}
 use Rattle.rules.specs.declared.entry.Entry.TheVariants.{Enrolled}
-use Rattle.rules.proofs.Entered.{entry_in}
 use Rattle.sheet.specs.Sheet.{ChangesOnlyDays, ChangesOnlyNotes}
 use Rattle.sheet.proofs.NewEntries.{sheet_after_enrolment, knows_enrolment, ready_after_enrolment}
 use Rattle.sheet.proofs.sheet.Sheet.start_point.Goals as goal
 use Rattle.sheet.proofs.sheet.Sheet.start_point.Goals.{then-not-contains-via-else-not-contains+then-enrolment-self, then-not-contains-via-then-not-contains}
+use Rattle.rules.proofs.AcceptedEntries.{entry_in}
 
 pub returns-then-not-contains : goal.returns-then-not-contains
 returns-then-not-contains g c = λ s rest h lawful follows on is_sheet.

@@ -1,8 +1,8 @@
 use Rattle.std.proofs.Common.{arith}
 use Rattle.rules.specs.declared.entry.Entry.TheVariants.{DegreeDaysEntered}
-use Rattle.rules.proofs.Entered.{entry_in}
 use Rattle.sheet.proofs.NewEntries.{sheet_after_count, knows_count, supplied_after_count}
 use Rattle.sheet.proofs.sheet.Sheet.take_count.Goals as goal
+use Rattle.rules.proofs.AcceptedEntries.{entry_in}
 
 pub returns-then-day-self : goal.returns-then-day-self
 returns-then-day-self g c = λ s rest h count lawful follows on is_sheet.
