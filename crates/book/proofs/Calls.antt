@@ -3,7 +3,7 @@ use Rattle.std.proofs.Common.{◌≡◌, ℕ, false, ◌∷◌, Some, None, Ok, 
 use Rattle.std.specs.Result.{IsOkAnd}
 use Rattle.std.proofs.lemmas.Bool.{true≢false}
 use Rattle.std.specs.Option.{option_or}
-use Rattle.estimators.specs.Meaning.{Meaning}
+use Rattle.estimators.specs.Meaning.{Meaning, Meanings}
 use Rattle.rules.specs.Calls.{entry_of, refusal, IsLawful, named_date}
 use Rattle.rules.specs.History.{History, Setting, count_in, degree_day_count}
 use Rattle.rules.specs.declared.call.Call.{Call}
@@ -14,7 +14,6 @@ use Rattle.terms.specs.Refusal.{number_of, date_named}
 use Rattle.terms.specs.declared.refusal.Refusal.{Refusal}
 use Rattle.book.specs.Book.{IsBookOf, IsServedByLaw, enters_count}
 use Rattle.book.specs.Case.{Case, case_after_call}
-use Rattle.book.specs.Meanings.{Meanings}
 use Rattle.book.specs.Replies.{Reply, accepted, answer_reply, due_reply, entry_reply, given_reply, granted_reply, lengthened_history, refused, reply_of, unless_refused}
 use Rattle.book.specs.declared.book.Book.{Book}
 use Rattle.book.specs.declared.serve.Answer.{Answer}

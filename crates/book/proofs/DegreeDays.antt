@@ -3,7 +3,7 @@ use Rattle.std.proofs.Common.{◌≡◌, ℕ, ◌+◌, ◌<◌, ◌≤◌, true,
 use Rattle.std.proofs.lemmas.Bool.{and_from, both_ways, cases_eq, eq-eqb, le-leb, ne_eqb}
 use Rattle.std.specs.Option.{option_or}
 use Rattle.estimators.specs.Limits.{greatest_count, last_day}
-use Rattle.estimators.specs.Meaning.{Meaning, weather_within, TakesCount}
+use Rattle.estimators.specs.Meaning.{Meaning, weather_within, TakesCount, Meanings}
 use Rattle.rules.specs.Calls.{entry_of, refusal, IsLawful}
 use Rattle.rules.specs.History.{History, Setting, degree_day_count}
 use Rattle.rules.specs.declared.call.Call.TheVariants.{EnterDegreeDays}
@@ -14,7 +14,6 @@ use Rattle.terms.specs.declared.refusal.Refusal.{Refusal}
 use Rattle.sheet.specs.declared.sheet.Sheet.{Sheet}
 use Rattle.book.specs.Book.{IsBookOf, SheetTakes}
 use Rattle.book.specs.Case.{Case, case_after_call}
-use Rattle.book.specs.Meanings.{Meanings}
 use Rattle.book.specs.Replies.{due_reply, entry_reply, reply_of}
 use Rattle.book.specs.declared.book.Book.{Book}
 use Rattle.book.proofs.Calls.{entry_follows, granted_answers}

@@ -13,7 +13,7 @@ use Rattle.sheet.specs.declared.sheet.Sheet.{Sheet}
 use Rattle.book.specs.Book.{IsAnsweredByLaw, IsBookOf, IsServedByLaw}
 use Rattle.book.specs.Case.{Case, case_after_call}
 use Rattle.book.specs.Days.{account_named, account_refusal, day_refusal, names_none}
-use Rattle.book.specs.Meanings.{Meanings}
+use Rattle.estimators.specs.Meaning.{Meanings}
 use Rattle.book.specs.Replies.{IsJudgedBy, Reply, answer_reply, day_is, granted_reply, lengthened_history, reply_of, sum_is}
 use Rattle.book.specs.declared.book.Book.{Book}
 use Rattle.book.specs.declared.serve.Answer.{Answer}

@@ -9,7 +9,7 @@ use Rattle.rules.specs.declared.call.Call.{Call}
 use Rattle.rules.specs.declared.entry.Entry.{Entry}
 use Rattle.book.specs.Book.{IsBookOf}
 use Rattle.book.specs.Case.{Case, case_after_call, case_after_calls}
-use Rattle.book.specs.Meanings.{Meanings}
+use Rattle.estimators.specs.Meaning.{Meanings}
 use Rattle.book.specs.Law.{Law}
 use Rattle.book.specs.Replies.{changes_nothing, due_replies, due_reply, given_reply, history_after_call, history_after_calls, lengthened_history}
 use Rattle.terms.specs.declared.refusal.Refusal.{Refusal}

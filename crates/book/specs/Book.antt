@@ -1,6 +1,6 @@
 -- A book kept in a case, and what its calls promise of every case.
 use Rattle.std.specs.Prelude.{◌≡◌, ℕ, Bool, true, false, List, ◌∷◌, OnErr, Result}
-use Rattle.estimators.specs.Meaning.{Meaning}
+use Rattle.estimators.specs.Meaning.{Meaning, Meanings}
 use Rattle.rules.specs.History.{History, Setting}
 use Rattle.rules.specs.declared.call.Call.{Call}
 use Rattle.rules.specs.declared.call.Call.TheVariants.{EnterDegreeDays}
@@ -9,7 +9,6 @@ use Rattle.ledger.specs.declared.ledger.Ledger.{Ledger}
 use Rattle.terms.specs.declared.refusal.Refusal.{Refusal}
 use Rattle.sheet.specs.declared.sheet.Sheet.{Sheet}
 use Rattle.book.specs.Case.{Case, case_after_call}
-use Rattle.book.specs.Meanings.{Meanings}
 use Rattle.book.specs.Replies.{Reply, due_reply, entry_reply, reply_of}
 use Rattle.book.specs.declared.book.Book.{Book}
 use Rattle.book.specs.declared.book.Lists.{Lists}

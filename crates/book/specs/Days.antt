@@ -6,13 +6,14 @@ use Rattle.rules.specs.Figures.{load, retailer_sum}
 use Rattle.rules.specs.History.{History, Setting}
 use Rattle.terms.specs.declared.refusal.Refusal.{Refusal}
 use Rattle.book.specs.Book.{InEveryCase}
-use Rattle.book.specs.Meanings.{Meanings}
+use Rattle.estimators.specs.Meaning.{Meanings}
 use Rattle.book.specs.Replies.{IsJudgedBy}
 use Rattle.book.specs.declared.book.Book.{Book}
 use Rattle.book.specs.declared.book.Days.{Days}
 use Rattle.rules.specs.Calls.{first_refusal, is_in_book, day_of_date}
 use Rattle.sheet.specs.Account.{account}
 use Rattle.sheet.specs.declared.account.Account.{Account}
+use Rattle.terms.specs.RefusalNumbers.{asked_day_without_load, end_not_allowed, no_such_date, outside_book}
 
 -- 4: the first date or the last does not exist
 abbrev pub span_names_no_date : ℕ → ℕ → Bool
@@ -30,9 +31,9 @@ span_is_backwards first last = nat_lt (day_number_of last) (day_number_of first)
 unfoldable pub days_refusal : Setting → ℕ → ℕ → Option ℕ
 days_refusal s first last =
     first_refusal
-    (record { number = 4; holds = span_names_no_date first last }
-    ∷ record { number = 5; holds = span_leaves_book s first last }
-    ∷ record { number = 10; holds = span_is_backwards first last } ∷ [])
+    (record { number = no_such_date; holds = span_names_no_date first last }
+    ∷ record { number = outside_book; holds = span_leaves_book s first last }
+    ∷ record { number = end_not_allowed; holds = span_is_backwards first last } ∷ [])
 
 -- a refusal that names no day
 abbrev pub names_none : ℕ → Option ℕ
@@ -50,14 +51,14 @@ pub record AreDaysOf (s : Setting) (first_date last_date : ℕ) (days : Days) : 
 
 -- the refusal of a question about a day: 5 where the book has no such day
 abbrev pub day_refusal : Setting → ℕ → Option ℕ
-day_refusal s day = first_refusal (record { number = 5; holds = not (nat_lt day s.days) } ∷ [])
+day_refusal s day = first_refusal (record { number = outside_book; holds = not (nat_lt day s.days) } ∷ [])
 
 -- the refusal of an account: also 14 where the day has no load, under which its date is named
 abbrev pub account_refusal : Setting → History → ℕ → Option ℕ
 account_refusal s h day =
     first_refusal
-    (record { number = 5; holds = not (nat_lt day s.days) }
-    ∷ record { number = 14; holds = not (is_some (load s h day)) } ∷ [])
+    (record { number = outside_book; holds = not (nat_lt day s.days) }
+    ∷ record { number = asked_day_without_load; holds = not (is_some (load s h day)) } ∷ [])
 
 abbrev pub account_named : Setting → ℕ → ℕ → Option ℕ
 account_named s day n = if n == 14 then Some (date_of_day_number (s.first + day)) else None

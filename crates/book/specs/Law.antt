@@ -11,7 +11,7 @@ use Rattle.allocation.specs.Sharing.{shares}
 use Rattle.terms.specs.declared.refusal.Refusal.{Refusal}
 use Rattle.book.specs.Book.{IsBookOf}
 use Rattle.book.specs.Case.{Case, case_after_calls}
-use Rattle.book.specs.Meanings.{Meanings}
+use Rattle.estimators.specs.Meaning.{Meanings}
 use Rattle.book.specs.Replies.{due_replies, given_reply, history_after_call, history_after_calls}
 use Rattle.book.specs.declared.book.Book.{Book}
 use Rattle.book.specs.declared.serve.Answer.{Answer}

@@ -6,13 +6,13 @@ use Rattle.ledger.specs.declared.opening.OpeningRequest.{OpeningRequest}
 use Rattle.terms.specs.Refusal.{number_of}
 use Rattle.book.specs.Book.{IsBookOf}
 use Rattle.book.specs.Case.{Beyond, Case}
-use Rattle.book.specs.Meanings.{Meanings}
+use Rattle.estimators.specs.Meaning.{Meanings, IsBounded, IsBoundedUnder}
 use Rattle.book.specs.declared.book.Book.{Book}
 use Rattle.book.specs.declared.book.Lists.{Lists}
 use Rattle.allocation.specs.Loads.{meters}
-use Rattle.estimators.specs.Meaning.{IsBounded, IsBoundedUnder}
 use Rattle.rules.specs.Calls.{first_refusal}
 use Rattle.ledger.specs.Opening.{is_opening_beyond_limits, setting_of}
+use Rattle.terms.specs.RefusalNumbers.{beyond_limits, list_too_short, no_such_date}
 
 -- 15: the sheet list has fewer places than days times points, the interval list fewer than 32 a day, or the
 -- reading list none
@@ -26,9 +26,9 @@ are_book_lists_short q lists =
 abbrev pub book_opening_refusal : OpeningRequest → Lists → Option ℕ
 book_opening_refusal q lists =
     first_refusal
-    (record { number = 3; holds = is_opening_beyond_limits q }
-    ∷ record { number = 4; holds = not (is_date q.first_date) }
-    ∷ record { number = 15; holds = are_book_lists_short q lists } ∷ [])
+    (record { number = beyond_limits; holds = is_opening_beyond_limits q }
+    ∷ record { number = no_such_date; holds = not (is_date q.first_date) }
+    ∷ record { number = list_too_short; holds = are_book_lists_short q lists } ∷ [])
 
 -- what lists hold beyond the places of a book of so many days and points
 abbrev pub rest_of : OpeningRequest → Lists → Beyond

@@ -8,6 +8,7 @@ ghost use Rattle.terms.specs.Answers.{Answers};
 ghost use Rattle.terms.specs.Refusal.{number_of};
 ghost use Rattle.calendar.specs.Digits.{date_of_day_number};
 ghost use Rattle.ledger.specs.Opening.{has_day_number};
+ghost use Rattle.terms.specs.RefusalNumbers.{beyond_limits};
 
 use calendar::{date_of_day_number, day_number_of};
 use estimators::{Estimator, Weather};
@@ -129,7 +130,7 @@ impl Book {
 // Entries. Each is judged and held by the ledger first, and then taken in by the sheet.
 impl Book {
     ghost use Rattle.book.specs.Book.{IsEnteredBeside, ChangesLedgerOnly, IsServedByLaw, LeavesBookIfRefused, SheetTakes};
-    ghost use Rattle.book.specs.Meanings.{meanings_of};
+    ghost use Rattle.estimators.specs.Meaning.{meanings_of};
     ghost use Rattle.book.specs.Replies.{entry_reply};
     ghost use Rattle.book.specs.declared.book.Book.{Book};
 
@@ -180,7 +181,7 @@ impl Book {
         count: u32,
     ) -> Result<(), Refusal>
         requires { day < last_day }
-        ensures answer { Answers result (weather_within (day + 1) count) tt 3 }
+        ensures answer { Answers result (weather_within (day + 1) count) tt beyond_limits }
         ensures refused { OnErr result ((self.new ≡ self.old) × (estimator.new ≡ estimator.old)) }
         ensures ledger { self.new.ledger ≡ self.old.ledger }
         ensures weather { weather_within (day + 1) count ≡ true
@@ -296,7 +297,7 @@ impl Book {
 impl Book {
     ghost use Rattle.book.specs.Book.{IsAnsweredByLaw};
     ghost use Rattle.book.specs.Days.{TellsAccount, TellsDays, TellsSum};
-    ghost use Rattle.book.specs.Meanings.{Meanings, meanings_of};
+    ghost use Rattle.estimators.specs.Meaning.{Meanings, meanings_of};
     ghost use Rattle.book.specs.Replies.{day_is, figure_is, sum_is};
 
     // The date of a day of the book.

@@ -2,10 +2,11 @@ ghost use Rattle.std.specs.Prelude.{◌≡◌, true, false, T, length, take, dro
 ghost use Rattle.std.specs.List.{list_all};
 ghost use Rattle.book.specs.Book.{InEveryCase, IsBookOf, IsServedByLaw};
 ghost use Rattle.book.specs.Law.{Law};
-ghost use Rattle.book.specs.Meanings.{meanings_of};
+ghost use Rattle.estimators.specs.Meaning.{meanings_of};
 ghost use Rattle.book.specs.Opening.{OpensByRules, opening_case};
 ghost use Rattle.book.specs.Replies.{answer_reply, changes_nothing};
 ghost use Rattle.terms.specs.Answers.{IsAcceptedWhen};
+ghost use Rattle.terms.specs.RefusalNumbers.{list_too_short};
 
 use super::book::{Book, Lists};
 use estimators::{Estimator, Weather};
@@ -90,7 +91,7 @@ impl Book {
         calls: &[Call],
         answers: &mut [Result<Answer, Refusal>],
     ) -> Result<(), Refusal>
-        ensures answer { IsAcceptedWhen result (nat_le (length calls.now) (length answers.old)) 15 }
+        ensures answer { IsAcceptedWhen result (nat_le (length calls.now) (length answers.old)) list_too_short }
         ensures refused { OnErr result
             ((self.new ≡ self.old) × (estimator.new ≡ estimator.old) × (answers.new ≡ answers.old)) }
         ensures rest { drop (length calls.now) answers.new ≡ drop (length calls.now) answers.old }

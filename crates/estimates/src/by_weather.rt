@@ -3,6 +3,7 @@ ghost use Rattle.terms.specs.Answers.{Answers};
 ghost use Rattle.estimators.specs.Entries.{entries_pass};
 ghost use Rattle.estimators.specs.Limits.{count_within, last_point, last_day};
 ghost use Rattle.estimates.specs.Factors.{factors_within};
+ghost use Rattle.terms.specs.RefusalNumbers.{beyond_limits};
 
 use super::factors::Factors;
 use estimators::{DAYS, Estimator, POINTS, Weather, entry_numbered, judge_weather, point_within};
@@ -40,7 +41,7 @@ impl ByWeather {
     /// `BeyondLimits` (3), and nothing changes, where there is no such point or a factor is above its limit.
     #[tactic(auto, using(estimators::proofs::Tables::entered_passes))]
     pub fn enter_factors(&mut self, point: u32, factors: Factors) -> Result<(), Refusal>
-        ensures answer { Answers result (factors_entry_within point factors) tt 3 }
+        ensures answer { Answers result (factors_entry_within point factors) tt beyond_limits }
         ensures factors { self.new.factors
             ≡ (if factors_entry_within point factors
             then slice_set self.old.factors (point - 1) (Option.Some factors)

@@ -5,6 +5,7 @@ ghost use Rattle.calendar.specs.Gregorian.{days_in_all};
 ghost use Rattle.estimators.specs.Entries.{entries_pass};
 ghost use Rattle.estimators.specs.Limits.{last_point};
 ghost use Rattle.estimates.specs.Usage.{usage_within};
+ghost use Rattle.terms.specs.RefusalNumbers.{beyond_limits};
 
 use super::season::month_of_day_number;
 use super::usage::Usage;
@@ -57,7 +58,7 @@ impl HotWater {
     /// limits.
     #[tactic(auto, using(estimators::proofs::Tables::entered_passes))]
     pub fn enter_usage(&mut self, point: u32, usage: Usage) -> Result<(), Refusal>
-        ensures answer { Answers result (usage_entry_within point usage) tt 3 }
+        ensures answer { Answers result (usage_entry_within point usage) tt beyond_limits }
         ensures usages { self.new.usages
             ≡ (if usage_entry_within point usage
             then slice_set self.old.usages (point - 1) (Option.Some usage)

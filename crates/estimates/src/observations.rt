@@ -4,6 +4,7 @@ ghost use Rattle.estimates.specs.DegreeDayTerms.{AreTermsWithin, largest_degree_
 ghost use Rattle.estimates.specs.Observations.{temperature_within, wind_within, observations_within};
 ghost use Rattle.estimates.specs.Observations.{has_count, coldness, wind_chill, terms_of, degree_days};
 ghost use Rattle.estimates.specs.Observations.{largest_coldness, largest_wind_sum};
+ghost use Rattle.terms.specs.RefusalNumbers.{beyond_limits};
 
 use super::degree_day_terms::DegreeDayTerms;
 use super::season_table::season_term;
@@ -50,7 +51,7 @@ impl Observations {
     ///
     /// `BeyondLimits` (3) where an observation or the day of the year is beyond its limits.
     pub fn degree_days(&self, day_of_year: u32) -> Result<u32, Refusal>
-        ensures answer { Answers result (has_count self.now day_of_year) (degree_days self.now day_of_year) 3 }
+        ensures answer { Answers result (has_count self.now day_of_year) (degree_days self.now day_of_year) beyond_limits }
         ensures bound { IfOk result (λ count. count ≤ largest_degree_days) }
     {
         let terms = self.terms(day_of_year)?;
@@ -59,7 +60,7 @@ impl Observations {
 
     /// The four terms of that count, refused as `degree_days` is.
     pub fn terms(&self, day_of_year: u32) -> Result<DegreeDayTerms, Refusal>
-        ensures answer { Answers result (has_count self.now day_of_year) (terms_of self.now day_of_year) 3 }
+        ensures answer { Answers result (has_count self.now day_of_year) (terms_of self.now day_of_year) beyond_limits }
         ensures bounds { IfOk result AreTermsWithin }
     {
         if !self.are_within() || !(1..=LAST_DAY_OF_YEAR).contains(&day_of_year) {

@@ -11,10 +11,9 @@ pub record Meanings : Type 0 where
   pub current : Meaning
   pub under : ℕ → Meaning
 
--- both meanings of a weather estimator in one, as a contract under a bound `E: Weather` names them:
--- `meanings_of E.meaning E.under estimator.now`
-abbrev pub meanings_of : {E : Type 0} → (E → Meaning) → (E → ℕ → Meaning) → E → Meanings
-meanings_of meaning under estimator = record { current = meaning estimator; under = under estimator }
+-- the two together
+abbrev pub meanings_of : Meaning → (ℕ → Meaning) → Meanings
+meanings_of m u = record { current = m; under = u }
 
 -- every figure is within its limit
 abbrev pub IsBounded : Meaning → Type 0

@@ -4,6 +4,7 @@ ghost use Rattle.estimators.specs.Limits.{last_point};
 ghost use Rattle.estimators.specs.Cap.{flow_of, capped_figure, capped_meaning, flow_within, with_flow};
 ghost use Rattle.estimators.specs.Cap.{capped_bounded, capped_ranged, capped_bounded_under};
 ghost use Rattle.estimators.specs.Cap.{capped_ranged_under};
+ghost use Rattle.terms.specs.RefusalNumbers.{beyond_limits};
 
 use super::estimator::{Estimator, Weather};
 use super::limits::{GREATEST_FIGURE, POINTS, entry_numbered, point_within};
@@ -34,7 +35,7 @@ impl<E> Cap<E> {
     ///
     /// `BeyondLimits` (3), and nothing changes, where there is no such point or the flow is above `GREATEST_FIGURE`.
     pub fn enter_flow(&mut self, point: u32, flow: u64) -> Result<(), Refusal>
-        ensures answer { Answers result (flow_within point flow) tt 3 }
+        ensures answer { Answers result (flow_within point flow) tt beyond_limits }
         ensures after { self.new
             ≡ (if flow_within point flow then with_flow self.old point flow else self.old) }
     {

@@ -3,6 +3,7 @@ ghost use Rattle.std.specs.Prelude.{◌≡◌, ℕ, true, false};
 ghost use Rattle.terms.specs.Answers.{Answers};
 ghost use Rattle.estimators.specs.Meaning.{Meaning, IsBounded, IsRanged, IsBoundedUnder};
 ghost use Rattle.estimators.specs.Meaning.{IsRangedUnder, TakesCount, weather_within};
+ghost use Rattle.terms.specs.RefusalNumbers.{beyond_limits};
 
 use terms::Refusal;
 
@@ -41,7 +42,7 @@ pub trait Weather: Estimator {
     /// `BeyondLimits` (3), and nothing changes, where there is no such day place or the count is above
     /// `GREATEST_COUNT`.
     fn enter(&mut self, place: u32, count: u32) -> Result<(), Refusal>
-        ensures answer { Answers result (weather_within place count) tt 3 }
+        ensures answer { Answers result (weather_within place count) tt beyond_limits }
         ensures entered { weather_within place count ≡ true
             → TakesCount place count (Self.Estimator.meaning self.old) (Self.Estimator.meaning self.new)
             (under self.old) (under self.new) }

@@ -4,6 +4,7 @@ ghost use Rattle.terms.specs.Answers.{Answers};
 ghost use Rattle.estimators.specs.Entries.{entry_numbered};
 ghost use Rattle.estimators.specs.Limits as bounds;
 ghost use Rattle.estimators.specs.Meaning.{weather_within};
+ghost use Rattle.terms.specs.RefusalNumbers.{beyond_limits};
 
 use terms::Refusal;
 
@@ -43,7 +44,7 @@ pub fn count_within(count: u32) -> bool
 /// What every estimator answers to a degree-day count, in hundredths, for a day place: `BeyondLimits` (3) where there
 /// is no such day place or no such count.
 pub fn judge_weather(place: u32, count: u32) -> Result<(), Refusal>
-    ensures { Answers result (weather_within place count) tt 3 }
+    ensures { Answers result (weather_within place count) tt beyond_limits }
 {
     if day_place_within(place) && count_within(count) {
         Ok(())

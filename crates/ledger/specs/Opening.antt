@@ -12,6 +12,7 @@ use Rattle.terms.specs.declared.refusal.Refusal.{Refusal}
 use Rattle.ledger.specs.declared.opening.Opening.{Opening}
 use Rattle.ledger.specs.declared.opening.OpeningRequest.{OpeningRequest}
 use Rattle.rules.specs.Calls.{is_between, first_refusal}
+use Rattle.terms.specs.RefusalNumbers.{beyond_limits, list_too_short, no_such_date, outside_book}
 
 -- a day number is that of a day of the book, or of one at most so many days later
 abbrev pub has_day_number : Opening → ℕ → ℕ → Bool
@@ -23,8 +24,8 @@ has_day_number o later day_number =
 abbrev pub JudgesDay : Opening → ℕ → Result ℕ Refusal → Type 0
 JudgesDay o date r =
     MatchBool (is_date date)
-    (Answers r (has_day_number o 0 (day_number_of date)) (day_number_of date - o.first) 5)
-    (IsRefusedBy 4 r)
+    (Answers r (has_day_number o 0 (day_number_of date)) (day_number_of date - o.first) outside_book)
+    (IsRefusedBy no_such_date r)
 
 -- 3: a number is beyond its limits, or the last day is later than 30 December 2099
 abbrev pub is_opening_beyond_limits : OpeningRequest → Bool
@@ -42,9 +43,9 @@ are_lists_short days interval_places reading_places =
 abbrev pub opening_refusal : OpeningRequest → ℕ → ℕ → Option ℕ
 opening_refusal q interval_places reading_places =
     first_refusal
-    (record { number = 3; holds = is_opening_beyond_limits q }
-    ∷ record { number = 4; holds = not (is_date q.first_date) }
-    ∷ record { number = 15; holds = are_lists_short q.days interval_places reading_places } ∷ [])
+    (record { number = beyond_limits; holds = is_opening_beyond_limits q }
+    ∷ record { number = no_such_date; holds = not (is_date q.first_date) }
+    ∷ record { number = list_too_short; holds = are_lists_short q.days interval_places reading_places } ∷ [])
 
 -- the opening that is asked for
 abbrev pub opening_of : OpeningRequest → Opening

@@ -15,6 +15,7 @@ use Rattle.ledger.specs.Ledger.{EachLedgerHistory, enrolment_at}
 use Rattle.ledger.specs.Places.{holds_passing}
 use Rattle.ledger.specs.declared.ledger.Ledger.{Ledger}
 use Rattle.terms.specs.ReadingType.{is_firm}
+use Rattle.terms.specs.RefusalNumbers.{beyond_limits, covered_day_without_load, end_not_allowed, negative_energy, no_such_date, outside_book, point_not_enrolled, reading_places_full, soft_over_firm, start_is_no_mark}
 
 -- some place of the ledger holds a reading that passes a test
 abbrev pub some_at : Ledger → (Reading → Bool) → Bool
@@ -60,11 +61,11 @@ is_full_at l r = nat_le (vec_len l.places) (kept_count l r)
 abbrev pub numbers_refusal : Setting → History → Call → Option ℕ
 numbers_refusal s h c =
     first_refusal
-    (record { number = 3; holds = is_beyond_limits s c }
-    ∷ record { number = 4; holds = names_no_date c }
-    ∷ record { number = 5; holds = names_day_outside_book s c }
-    ∷ record { number = 6; holds = has_negative_energy c }
-    ∷ record { number = 7; holds = names_unenrolled_point h c } ∷ [])
+    (record { number = beyond_limits; holds = is_beyond_limits s c }
+    ∷ record { number = no_such_date; holds = names_no_date c }
+    ∷ record { number = outside_book; holds = names_day_outside_book s c }
+    ∷ record { number = negative_energy; holds = has_negative_energy c }
+    ∷ record { number = point_not_enrolled; holds = names_unenrolled_point h c } ∷ [])
 
 abbrev pub IsNumbersJudgement : Setting → History → Call → Result Reading Refusal → Type 0
 IsNumbersJudgement s h c (Ok r) =
@@ -76,11 +77,11 @@ IsNumbersJudgement s h c (Err e) =
 unfoldable pub span_refusal : Setting → History → Reading → Option ℕ
 span_refusal s h r =
     first_refusal
-    (record { number = 9; holds = starts_at_no_mark h r }
-    ∷ record { number = 10; holds = ends_where_not_allowed h r }
-    ∷ record { number = 11; holds = covers_day_without_load s h r }
-    ∷ record { number = 12; holds = replaces_firm_though_soft h r }
-    ∷ record { number = 13; holds = finds_no_place s h r } ∷ [])
+    (record { number = start_is_no_mark; holds = starts_at_no_mark h r }
+    ∷ record { number = end_not_allowed; holds = ends_where_not_allowed h r }
+    ∷ record { number = covered_day_without_load; holds = covers_day_without_load s h r }
+    ∷ record { number = soft_over_firm; holds = replaces_firm_though_soft h r }
+    ∷ record { number = reading_places_full; holds = finds_no_place s h r } ∷ [])
 
 -- the day that such a refusal names
 unfoldable pub span_named : Setting → History → Reading → ℕ → Option ℕ

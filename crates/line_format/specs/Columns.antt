@@ -3,6 +3,7 @@ use Rattle.std.specs.Prelude.{◌≡◌, ◌≢◌, ℕ, zero, suc, ◌+◌, ◌
 use Rattle.std.specs.Fmt as fmt
 use Rattle.terms.specs.Refusal.{number_of}
 use Rattle.terms.specs.declared.refusal.Refusal.{Refusal}
+use Rattle.terms.specs.RefusalNumbers.{malformed_line}
 
 -- a text at the right of ten columns, spaces before it
 abbrev pub right_aligned : List ℕ → List ℕ
@@ -48,4 +49,4 @@ abbrev pub InvertsWriting : {X : Type 0}
     → (X → Bool) → (X → List ℕ) → List ℕ → Result X Refusal → Type 0
 InvertsWriting {X} fits writing bytes (Ok x) = T (fits x) × (bytes ≡ writing x)
 InvertsWriting {X} fits writing bytes (Err e) =
-    (number_of e ≡ 1) × ((x : X) → T (fits x) → bytes ≢ writing x)
+    (number_of e ≡ malformed_line) × ((x : X) → T (fits x) → bytes ≢ writing x)

@@ -6,6 +6,5 @@ pub mod Tag
 pub mod Record
 pub mod Segment
 pub mod Fault
-pub mod OtherLimits
 pub mod Limits
 pub mod Line

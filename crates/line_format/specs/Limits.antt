@@ -6,7 +6,8 @@ use Rattle.calendar.specs.Digits.{is_date, day_number_of}
 use Rattle.estimates.specs.Factors.{greatest_base_load, greatest_sensitivity}
 use Rattle.estimators.specs.Limits.{greatest_count}
 use Rattle.line_format.specs.Kind.{Kind, Value, number, signed, date}
-use Rattle.line_format.specs.OtherLimits.{largest_energy, largest_interval, meters, retailers}
+use Rattle.allocation.specs.Loads.{largest_interval, meters}
+use Rattle.terms.specs.Limits.{largest_energy, retailers}
 use Rattle.line_format.specs.Record.{Content, contents, tag_of}
 use Rattle.line_format.specs.declared.limits.Limits.{Limits}
 use Rattle.line_format.specs.declared.record.Record.{Record}

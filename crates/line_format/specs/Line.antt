@@ -11,6 +11,7 @@ use Rattle.line_format.specs.declared.fault.LineFault.{LineFault}
 use Rattle.line_format.specs.declared.limits.Limits.{Limits}
 use Rattle.line_format.specs.declared.record.Record.{Record}
 use Rattle.line_format.specs.declared.tag.Tag.{Tag}
+use Rattle.terms.specs.RefusalNumbers.{malformed_line}
 
 -- the bytes end with a line feed
 abbrev pub ends_with_line_feed : List ℕ → Bool
@@ -42,7 +43,7 @@ pub data IsAtFault (line : List ℕ) (c : ℕ) : Type 0 where
 -- bytes are read as the record that they are the writing of, or they are malformed and the column at fault is named
 abbrev pub ReadsLine : List ℕ → Result Record Fault → Type 0
 ReadsLine line (Ok r) = T (record_fits r) × (line ≡ record_bytes r)
-ReadsLine line (Err f) = (number_of f.refusal ≡ 1) × IsAtFault line f.column
+ReadsLine line (Err f) = (number_of f.refusal ≡ malformed_line) × IsAtFault line f.column
 
 -- bytes that are the writing of a record are read as that record
 abbrev pub ReadsBack : List ℕ → Result Record Fault → Type 0
@@ -51,7 +52,7 @@ ReadsBack line r = (x : Record) → T (record_fits x) → line ≡ record_bytes 
 -- a line that is read is written again with the same bytes
 abbrev pub WritesAgain : List ℕ → Result (Record × List ℕ) Fault → Type 0
 WritesAgain line (Ok p) = T (record_fits p.0) × (line ≡ record_bytes p.0) × (p.1 ≡ line)
-WritesAgain line (Err f) = (number_of f.refusal ≡ 1) × IsAtFault line f.column
+WritesAgain line (Err f) = (number_of f.refusal ≡ malformed_line) × IsAtFault line f.column
 
 -- the bytes are malformed at a column
 abbrev pub IsMalformedAt : List ℕ → ℕ → ℕ → Type 0

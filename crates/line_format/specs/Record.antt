@@ -18,6 +18,7 @@ use Rattle.line_format.specs.declared.record.Record.{Record}
 use Rattle.line_format.specs.declared.record.Record.TheVariants as of
 use Rattle.line_format.specs.declared.tag.Tag.{Tag}
 use Rattle.line_format.specs.declared.tag.Tag.TheVariants.{Open, Fact, Enrl, Gate, Intv, Degd, Read}
+use Rattle.terms.specs.RefusalNumbers.{beyond_limits, list_too_short}
 
 -- what stands in a field or in the letter's column: a value and its kind
 pub record Content : Type 0 where
@@ -112,7 +113,7 @@ record_bytes r = line_bytes (tag_of r) (contents r)
 
 -- a content is written as its columns, or its value does not fit them
 abbrev pub WritesField : Content → Result (List ℕ) Refusal → Type 0
-WritesField c r = Answers r (fits c.kind c.value) (columns c.kind c.value) 3
+WritesField c r = Answers r (fits c.kind c.value) (columns c.kind c.value) beyond_limits
 
 -- the same of contents, one by one
 abbrev pub WritesFields : List Content → List (Result (List ℕ) Refusal) → Type 0
@@ -123,7 +124,7 @@ WritesFields (c ∷ cs) (r ∷ rs) = WritesField c r × WritesFields cs rs
 
 -- the line of a tag and contents is given, or one of their values does not fit
 abbrev pub WritesLine : Tag → List Content → Result (List ℕ) Refusal → Type 0
-WritesLine t cs r = Answers r (all_fit cs) (line_bytes t cs) 3
+WritesLine t cs r = Answers r (all_fit cs) (line_bytes t cs) beyond_limits
 
 -- the buffer holds old and then new: the record and the bytes beyond, or what it held.
 -- A record that does not fit its columns is refused as beyond limits, any other only where 46 bytes are wanting
@@ -131,5 +132,5 @@ abbrev pub WritesRecord : Record → List ℕ → List ℕ → Result (Unit {0})
 WritesRecord x old new (Ok _) =
     T (record_fits x) × (46 ≤ length old) × (new ≡ record_bytes x ++ drop 46 old)
 WritesRecord x old new (Err e) =
-    (number_of e ≡ (if record_fits x then 15 else 3))
+    (number_of e ≡ (if record_fits x then list_too_short else beyond_limits))
     × (T (record_fits x) → length old < 46) × (new ≡ old)

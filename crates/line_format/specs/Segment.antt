@@ -8,6 +8,7 @@ use Rattle.line_format.specs.declared.fault.Fault.{Fault}
 use Rattle.line_format.specs.declared.field.Field.{Field}
 use Rattle.line_format.specs.declared.field.Field.TheVariants.{First, Second, Third, Fourth}
 use Rattle.line_format.specs.declared.tag.Tag.{Tag}
+use Rattle.terms.specs.RefusalNumbers.{malformed_line}
 
 -- how many bytes of the line stand before a field
 abbrev pub bytes_before : Field → ℕ
@@ -56,14 +57,14 @@ pub data HoldsContents (line : List ℕ) : ℕ → List Content → Type 0 where
 
 -- the leftmost of the segments at fault is named as malformed
 pub record IsMalformed (ss : List Segment) (f : Fault) : Type 0 where
-  pub refusal : number_of f.refusal ≡ 1
+  pub refusal : number_of f.refusal ≡ malformed_line
   pub column : IsLeftmostFault ss f.column
 
 -- the tag is read, or it is no tag and column 1 is at fault
 abbrev pub ReadsTag : List ℕ → Result Tag Fault → Type 0
 ReadsTag line (Ok t) = take 4 line ≡ tag_bytes t
 ReadsTag line (Err f) =
-    (number_of f.refusal ≡ 1) × (f.column ≡ 1) × ((t : Tag) → take 4 line ≢ tag_bytes t)
+    (number_of f.refusal ≡ malformed_line) × (f.column ≡ 1) × ((t : Tag) → take 4 line ≢ tag_bytes t)
 
 -- a segment is read as what has the value that stands in it, or is malformed
 abbrev pub ReadsSegmentAs : {X : Type 0} (s : Segment) → (X → Value s.kind) → Result X Fault → Type 0

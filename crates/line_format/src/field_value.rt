@@ -2,6 +2,7 @@ ghost use Rattle.std.specs.Prelude.{◌≡◌, refl};
 ghost use Rattle.terms.specs.Answers.{Answers};
 ghost use Rattle.line_format.specs.FieldValue.{ReadsText, WritesText, ReadsField};
 ghost use Rattle.line_format.specs.Kind.{Kind, Value, width, fits, columns, number, signed};
+ghost use Rattle.terms.specs.RefusalNumbers.{beyond_limits};
 
 use super::field_text::FieldText;
 use super::signed_digits::SignedDigits;
@@ -43,7 +44,7 @@ pub(crate) trait FieldValue: Sized {
 
     // The ten columns of a value. Refuses as beyond limits (3) where it does not fit them.
     final fn write(self) -> Result<[u8; 10], Refusal>
-        ensures { Answers result (fits kind (value_of self)) (columns kind (value_of self)) 3 }
+        ensures { Answers result (fits kind (value_of self)) (columns kind (value_of self)) beyond_limits }
     {
         let text = self.to_text().ok_or(Refusal::BeyondLimits)?;
         Ok(text.columns())

@@ -21,7 +21,6 @@ mod field_value;
 mod letter;
 mod limits;
 mod line;
-mod other_limits;
 mod record;
 mod signed_digits;
 mod tag;

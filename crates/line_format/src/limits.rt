@@ -7,9 +7,9 @@ ghost use Rattle.line_format.specs.Segment.{bytes_before};
 
 use super::fault::Fault;
 use super::field::Field;
-use super::other_limits::{
-    LARGEST_BASE_LOAD, LARGEST_ENERGY, LARGEST_INTERVAL, LARGEST_SENSITIVITY, METERS, RETAILERS,
-};
+use allocation::{LARGEST_INTERVAL, METERS};
+use estimates::{GREATEST_BASE_LOAD, GREATEST_SENSITIVITY};
+use terms::{LARGEST_ENERGY, RETAILERS};
 use super::record::{Opening, Record};
 use allocation::{LARGEST_GATE, LARGEST_UNACCOUNTED};
 use calendar::{DAYS_IN_ALL, day_number_of};
@@ -64,8 +64,8 @@ fn numbers_within(record: &Record, limits: Limits) -> [bool; 4]
         ],
         Record::Factors(factors) => [
             is_within(factors.point, 1, points),
-            is_within(factors.base_load, 0, LARGEST_BASE_LOAD),
-            is_within(factors.sensitivity, 0, LARGEST_SENSITIVITY),
+            is_within(factors.base_load, 0, GREATEST_BASE_LOAD),
+            is_within(factors.sensitivity, 0, GREATEST_SENSITIVITY),
             true,
         ],
         Record::Enrolment(enrolment) => [

@@ -6,6 +6,7 @@ ghost use Rattle.line_format.specs.Line.{ChecksRecord, ChecksLine, ReadsContents
 ghost use Rattle.line_format.specs.Segment.{segment, bytes_before, ReadsSegment, ReadsSegmentAs, ReadsUnusedRest, ReadsTag, ReadsThree};
 ghost use Rattle.line_format.specs.Record.{record_fits};
 ghost use Rattle.line_format.specs.declared.tag.Tag.TheVariants.{Open, Fact, Enrl, Gate, Intv, Degd, Read};
+ghost use Rattle.terms.specs.RefusalNumbers.{beyond_limits, malformed_line};
 
 use super::blank::Blank;
 use super::eight_digits::EightDigits;
@@ -33,7 +34,7 @@ impl TryFrom<&[u8]> for Line {
     type Error = Fault;
 
     ghost try_from_gives = { λ bytes r. MatchResult r (λ line. line.bytes ≡ bytes.now)
-        (λ f. (number_of f.refusal ≡ 1) × (f.column ≡ column_past_end bytes.now)
+        (λ f. (number_of f.refusal ≡ malformed_line) × (f.column ≡ column_past_end bytes.now)
         × (is_line bytes.now ≡ false)) };
 
     fn try_from(bytes: &[u8]) -> Result<Line, Fault> {
@@ -256,7 +257,7 @@ pub fn check_line(line: u64, bytes: &[u8], limits: Limits) -> Result<Record, Lin
 /// Writes a record and reads what was written: the same record. Refuses as beyond limits (3) a
 /// record of which a value does not fit its columns.
 pub fn read_back(record: &Record) -> Result<Record, Refusal>
-    ensures { Answers result (record_fits «record».now) «record».now 3 }
+    ensures { Answers result (record_fits «record».now) «record».now beyond_limits }
 {
     let mut line = [0; 46];
     write_record(record, &mut line)?;

@@ -122,7 +122,7 @@ impl fmt::Display for RefusalShown {
     fn fmt<W: fmt::Write>(&self, f: &mut fmt::Formatter<W>) -> fmt::Result {
         let refusal = self.0;
         let number = refusal.number();
-        match refusal.day() {
+        match refusal.date() {
             Some(date) => write!(f, "refused, {number}, {refusal}: {}", DateShown(date)),
             None => write!(f, "refused, {number}, {refusal}"),
         }

@@ -13,7 +13,7 @@ use Rattle.report.specs.declared.stage.Stage.TheVariants as stage
 use Rattle.report.specs.Intake.{EntersLine, EntersRecord, IsStageOf, is_turn_at}
 use Rattle.report.specs.IntakeHistory.{IntakeHistory, history_with_record, largest_book, opened, unopened}
 use Rattle.report.specs.LineContent.{last_line_number, layer_by_number, malformed_at, record_is, reported_answer, reported_refusal}
-use Rattle.report.specs.RecordRefusal.{PlacedRefusal, history_unless_refused, is_in_turn, out_of_turn, placed_refusal, refusal_by_book}
+use Rattle.report.specs.RecordRefusal.{PlacedRefusal, history_unless_refused, is_in_turn, turn_refusal, placed_refusal, refusal_by_book}
 use Rattle.line_format.specs.Limits.{dates_exist, leftmost_refusal, field_refusal, verdict, numbers_within}
 use Rattle.line_format.specs.Fault.{on_line}
 use Rattle.line_format.specs.Line.{ReadsLine}
@@ -87,17 +87,17 @@ turn_at (opened s h) stage.Opening w x is = absurd is
 turn_at (opened s h) (stage.Opened o) w x is = refl
 
 -- a record out of turn
-turn_decides : (b : Bool) (later : Option PlacedRefusal) (r : PlacedRefusal) (t w : IntakeHistory) → Some r ≡ cond b None (Some out_of_turn) → (Some r ≡ cond b later (Some out_of_turn)) × (history_unless_refused (cond b later (Some out_of_turn)) t w ≡ t)
+turn_decides : (b : Bool) (later : Option PlacedRefusal) (r : PlacedRefusal) (t w : IntakeHistory) → Some r ≡ cond b None (Some turn_refusal) → (Some r ≡ cond b later (Some turn_refusal)) × (history_unless_refused (cond b later (Some turn_refusal)) t w ≡ t)
 turn_decides true later r t w is = absurd (cc)
 turn_decides false later r t w is = (is, refl)
 
 pub turn_enters : (bytes : List ℕ) (x : Record) (f : Fault) (intake : Intake) → ReadsLine bytes (Ok x)
-    → placed_refusal {X = Unit {0}} (Err f) ≡ cond (is_turn_at intake.stage x) None (Some out_of_turn) → EntersLine bytes (Err f) intake intake
+    → placed_refusal {X = Unit {0}} (Err f) ≡ cond (is_turn_at intake.stage x) None (Some turn_refusal) → EntersLine bytes (Err f) intake intake
 turn_enters bytes x f intake read turn t stands =
-    let told = turn_decides (is_in_turn t x) (limits_first (verdict largest_book x) (refusal_by_book t x)) _ t (history_with_record t x) (turn ∙ ap (λ b. cond b None (Some out_of_turn)) (sym (turn_at t intake.stage intake.weather x stands))) in
+    let told = turn_decides (is_in_turn t x) (limits_first (verdict largest_book x) (refusal_by_book t x)) _ t (history_with_record t x) (turn ∙ ap (λ b. cond b None (Some turn_refusal)) (sym (turn_at t intake.stage intake.weather x stands))) in
     (record_is x, read, told.0, subst (λ (y : IntakeHistory). IsStageOf y intake.stage intake.weather) (sym told.1) stands)
 
-pub in_turn_since : (b : Bool) → None ≡ cond b None (Some out_of_turn) → b ≡ true
+pub in_turn_since : (b : Bool) → None ≡ cond b None (Some turn_refusal) → b ≡ true
 in_turn_since true is = refl
 in_turn_since false is = absurd (cc)
 
@@ -120,7 +120,7 @@ verdict_number x m d is =
     either_number (field_refusal 3 (numbers_within largest_book x)) (field_refusal 4 (dates_exist x)) m d (leftmost_number 3 5 (numbers_within largest_book x)) (leftmost_number 4 5 (dates_exist x)) is
 
 limits_decide : (b : Bool) (v : Option (ℕ × ℕ)) (later : Option PlacedRefusal) (n c : ℕ) (t w : IntakeHistory) → b ≡ true → v ≡ Some (n, c)
-    → (cond b (limits_first v later) (Some out_of_turn) ≡ Some (record { number = n; column = c; date = None })) × (history_unless_refused (cond b (limits_first v later) (Some out_of_turn)) t w ≡ t)
+    → (cond b (limits_first v later) (Some turn_refusal) ≡ Some (record { number = n; column = c; date = None })) × (history_unless_refused (cond b (limits_first v later) (Some turn_refusal)) t w ≡ t)
 limits_decide b v later n c t w turn is = rw (turn, is) (refl, refl)
 
 pub limits_enter : (bytes : List ℕ) (x : Record) (f : Fault) (intake : Intake) → ReadsLine bytes (Ok x)
@@ -131,7 +131,7 @@ limits_enter bytes x f intake read turn refused t stands =
     (record_is x, read, refused_plainly f (number_of f.refusal) refl (verdict_number x (number_of f.refusal) f.column (sym refused)) ∙ sym told.0, subst (λ (y : IntakeHistory). IsStageOf y intake.stage intake.weather) (sym told.1) stands)
 
 -- a record in its turn and within its limits is judged by the book
-book_decides : (b : Bool) (v : Option (ℕ × ℕ)) (later : Option PlacedRefusal) → b ≡ true → v ≡ None → later ≡ cond b (limits_first v later) (Some out_of_turn)
+book_decides : (b : Bool) (v : Option (ℕ × ℕ)) (later : Option PlacedRefusal) → b ≡ true → v ≡ None → later ≡ cond b (limits_first v later) (Some turn_refusal)
 book_decides b v later turn none = rw (turn, none)
 
 pub record_enters : (bytes : List ℕ) (x : Record) (r : Result (Unit {0}) Fault) (intake new : Intake) → ReadsLine bytes (Ok x)

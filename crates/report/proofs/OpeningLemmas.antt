@@ -1,13 +1,12 @@
 -- A book that a line opens. Assumes nothing.
 use Rattle.std.proofs.Common.{◌≡◌, ℕ, ◌+◌, ◌-◌, ◌*◌, ◌<◌, ◌≤◌, Bool, true, false, cond, not, leb, List, [], Some, None, Ok, Option, Result, vec_len, refl, ap, ◌∙◌, subst, arith}
 use Rattle.std.proofs.lemmas.Bool.Decides.{nat_tests}
-use Rattle.book.specs.Opened.{setting}
 use Rattle.book.specs.declared.book.Book.{Book}
 use Rattle.book.specs.declared.book.Lists.{Lists}
 use Rattle.estimates.specs.declared.by_weather.ByWeather.{ByWeather}
 use Rattle.calendar.specs.Digits.{day_number_of, is_date}
 use Rattle.calendar.specs.Gregorian.{days_in_all}
-use Rattle.estimators.specs.Meaning.{Meaning}
+use Rattle.estimators.specs.Meaning.{Meanings, meanings_of}
 use Rattle.rules.specs.History.{History, Setting}
 use Rattle.ledger.specs.declared.opening.OpeningRequest.{OpeningRequest}
 use Rattle.line_format.proofs.BookEnds.{last_end}
@@ -17,14 +16,14 @@ use Rattle.line_format.specs.declared.record.Record.TheVariants as of
 use Rattle.terms.specs.Answers.{Answers, accepted_since}
 use Rattle.terms.specs.declared.refusal.Refusal.{Refusal}
 use Rattle.report.proofs.FactorsLemmas.{none_bounded, none_yet, weather_bounded, weather_stands}
-use Rattle.report.specs.Intake.{HasFactors, HasRoom, IsOpenedBookOf}
+use Rattle.report.specs.Intake.{HasFactors, HasRoom, IsOpenedBookOf, weather_meanings}
 use Rattle.report.specs.IntakeHistory.{largest_book, no_figure, setting_of_opening, weather_meaning}
 use Rattle.estimates.specs.ByWeather.{weather_figures, weather_figures_under}
 use Rattle.ledger.specs.Opening.{is_opening_beyond_limits}
 use Rattle.line_format.specs.Limits.{ends_in_time, verdict}
-use Rattle.book.specs.Case.{Beyond}
+use Rattle.book.specs.Case.{Beyond, Case}
 use Rattle.book.specs.Book.{IsBookOf}
-use Rattle.book.specs.Opening.{OpensBook, book_opening_refusal, rest_of, are_book_lists_short}
+use Rattle.book.specs.Opening.{OpensBook, are_book_lists_short, book_opening_refusal, opening_case, rest_of}
 
 -- what a book is asked to open with
 abbrev pub request : Opening → OpeningRequest
@@ -82,19 +81,21 @@ pub never_refused : (o : Opening) (lists : Lists) (n : ℕ) → verdict largest_
 never_refused o lists n none refused room = let opens = opens_within o lists (within o none) room in absurd (cc)
 
 -- a book follows what it followed, beside an estimator that means the same
-pub same_meaning : {s : Setting} {rest : Beyond} {h : History} {b : Book} {m m' : Meaning} {u u' : ℕ → Meaning} → ((p d : ℕ) → m' p d ≡ m p d) → ((count p d : ℕ) → u' count p d ≡ u count p d) → IsBookOf s rest h b m u → IsBookOf s rest h b m' u'
+pub same_meaning : {c : Case} {b : Book} {m m' : Meanings} → ((p d : ℕ) → m'.current p d ≡ m.current p d)
+    → ((count p d : ℕ) → m'.under count p d ≡ m.under count p d) → IsBookOf c b m → IsBookOf c b m'
 same_meaning same same_under f = record {
   lawful = f.lawful;
   limited = f.limited;
   entries = f.entries;
-  weather_figures = f.figures;
+  figures = f.figures;
   intervals = f.intervals;
   estimates = λ d p. same p (d + 1) ∙ f.estimates d p;
   weather = λ count p d. same_under count p d ∙ f.weather count p d;
 }
 
 -- with as many reading places as lines give it is the setting of the rules
-setting_is : (fs : List Factors) (o : Opening) (lists : Lists) → HasRoom lists → setting (request o) lists no_figure (weather_meaning fs) ≡ setting_of_opening fs o
+setting_is : (fs : List Factors) (o : Opening) (lists : Lists) → HasRoom lists
+    → (opening_case (request o) lists (meanings_of no_figure (weather_meaning fs))).setting ≡ setting_of_opening fs o
 setting_is fs o lists room = ap (λ (n : ℕ). record {
   first = day_number_of o.first_date;
   days = o.days;
@@ -112,8 +113,11 @@ opened_stands o lists b first none opened is fs w room stands = record {
   days = record { first = is; days = refl; in_time = (within o none).in_time };
   rest = rest_of (request o) lists;
   follows =
-      subst (λ (s : Setting). IsBookOf s (rest_of (request o) lists) [] b (weather_figures w) (weather_figures_under w)) (setting_is fs o lists room)
-      (same_meaning (none_yet fs w stands) (weather_stands fs w stands) (opened.1 no_figure (weather_meaning fs) none_bounded (weather_bounded fs w stands)));
+      subst
+      (λ (s : Setting). IsBookOf (record { setting = s; rest = rest_of (request o) lists; history = [] }) b (weather_meanings w))
+      (setting_is fs o lists room)
+      (same_meaning (none_yet fs w stands) (weather_stands fs w stands)
+      (opened.1 (meanings_of no_figure (weather_meaning fs)) none_bounded (weather_bounded fs w stands)));
 }
 
 -- the number of a date that there is

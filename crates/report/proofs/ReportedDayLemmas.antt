@@ -13,11 +13,10 @@ use Rattle.terms.specs.declared.refusal.Refusal.{Refusal}
 use Rattle.report.specs.declared.day_line.DayLine.{DayLine}
 use Rattle.report.proofs.BookAnswerLemmas.{day_known}
 use Rattle.report.specs.declared.opened_book.OpenedBook.{OpenedBook}
-use Rattle.report.specs.Intake.{IsOpenedBookOf}
+use Rattle.report.specs.Intake.{IsOpenedBookOf, weather_meanings}
 use Rattle.report.specs.IntakeHistory.{reported_book_day}
 use Rattle.calendar.proofs.NextDates.{only_date_of_day_number}
 use Rattle.calendar.specs.Digits.{HasDayNumber, date_of_day_number}
-use Rattle.estimates.specs.ByWeather.{weather_figures, weather_figures_under}
 use Rattle.sheet.specs.Account.{day_account}
 use Rattle.sheet.specs.declared.account.Account.{Account}
 use Rattle.book.specs.Book.{IsAnsweredByLaw}
@@ -31,17 +30,17 @@ numbered (Err e) k date answers is = absurd (cc)
 
 -- the line of a date and what a day's question is answered
 abbrev pub line_of : ℕ → Option Account → Option DayLine
-line_of date o = option_map (λ weather_figures. record { date = date; figures = weather_figures }) o
+line_of date o = option_map (λ figures. record { date = date; figures = figures }) o
 
 within_days : (d days : ℕ) (o : Option DayLine) → d < days → o ≡ cond (ltb d days) o None
 within_days d days o inside = let passes : ltb d days ≡ true = grind (arith, nat_tests) in rw passes
 
 pub reported_day_is : (s : Setting) (h : History) (b : OpenedBook) (w : ByWeather) (d k date : ℕ) (numbers : Result ℕ Refusal) (asked : Result Account Refusal) (line : Option DayLine)
     → IsOpenedBookOf s h b w → d < b.days.count → k ≡ min (b.days.first_day_number + d) 4294967295 → AnswersBy numbers (ltb k days_in_all) (λ n. HasDayNumber n k) 4 → Some date ≡ result_ok numbers
-    → IsAnsweredByLaw (AskDay date) day_is asked b.book (weather_figures w) (weather_figures_under w) → (o : Option Account) → o ≡ result_ok asked → line ≡ line_of date o → line ≡ reported_book_day s h d
+    → IsAnsweredByLaw (AskDay date) day_is asked b.book (weather_meanings w) → (o : Option Account) → o ≡ result_ok asked → line ≡ line_of date o → line ≡ reported_book_day s h d
 reported_day_is s h b w d k date numbers asked line stands before sum answers given asks o is shown =
     let inside : d < s.days = omega (arith, stands.days.days, before) in
     let number : k ≡ s.first + d = omega (arith, stands.days.first, stands.days.in_time, inside, sum) in
     let there = subst (λ (n : ℕ). HasDayNumber date n) number (numbered numbers k date answers given) in
-    let known = day_known s h date d there.0 there.1 inside asked (asks.law s stands.rest h stands.follows) in
+    let known = day_known s h date d there.0 there.1 inside asked (asks.law (record { setting = s; rest = stands.rest; history = h }) stands.follows) in
     shown ∙ ap (line_of date) (is ∙ known) ∙ ap (λ (n : ℕ). line_of n (day_account s h d)) (only_date_of_day_number date (s.first + d) there) ∙ within_days d s.days (line_of (date_of_day_number (s.first + d)) (day_account s h d)) inside

@@ -23,6 +23,7 @@ use Rattle.report.specs.declared.stage.Stage.TheVariants as stage
 use Rattle.allocation.specs.Loads.{meters}
 use Rattle.estimates.specs.ByWeather.{count_of, factors_of, weather_figures, weather_figures_under}
 use Rattle.book.specs.Case.{Beyond}
+use Rattle.estimators.specs.Meaning.{Meanings, meanings_of}
 use Rattle.book.specs.Book.{IsBookOf}
 
 -- lists in whose memory the largest book can be kept
@@ -37,6 +38,10 @@ pub record HasFactors (fs : List Factors) (w : ByWeather) : Type 0 where
   pub factors : (point : ℕ) → factors_of w point ≡ latest_factors fs point
   pub counts : (place : ℕ) → count_of w place ≡ None
 
+-- what an estimator by weather means, now and under each degree-day count
+abbrev pub weather_meanings : ByWeather → Meanings
+weather_meanings w = meanings_of (weather_figures w) (weather_figures_under w)
+
 -- the days of a book, which ends in time
 pub record IsDaysOf (s : Setting) (own : BookDays) : Type 0 where
   pub first : own.first_day_number ≡ s.first
@@ -47,7 +52,7 @@ pub record IsDaysOf (s : Setting) (own : BookDays) : Type 0 where
 pub record IsOpenedBookOf (s : Setting) (h : History) (o : OpenedBook) (w : ByWeather) : Type 0 where
   pub days : IsDaysOf s o.days
   pub rest : Beyond
-  pub follows : IsBookOf s rest h o.book (weather_figures w) (weather_figures_under w)
+  pub follows : IsBookOf (record { setting = s; rest = rest; history = h }) o.book (weather_meanings w)
 
 -- the stage and the estimator are as a history leaves them
 abbrev pub IsStageOf : IntakeHistory → Stage → ByWeather → Type 0

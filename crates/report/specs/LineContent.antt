@@ -10,6 +10,7 @@ use Rattle.report.specs.IntakeHistory.{IntakeHistory}
 use Rattle.report.specs.RecordRefusal.{PlacedRefusal, history_after_record, record_refusal}
 use Rattle.line_format.specs.Line.{IsAtFault}
 use Rattle.line_format.specs.Record.{record_fits, record_bytes}
+use Rattle.terms.specs.RefusalNumbers.{malformed_line}
 
 -- a record, or nothing, since the line is malformed at a column
 pub data LineContent : Type 0 where
@@ -24,7 +25,7 @@ HasContent bytes (malformed_at c) = IsAtFault bytes c
 -- the refusal of what a line says: 1 where it is malformed, else that of its record
 abbrev pub line_refusal : IntakeHistory → LineContent → Option PlacedRefusal
 line_refusal t (record_is x) = record_refusal t x
-line_refusal t (malformed_at c) = Some (record { number = 1; column = c; date = None })
+line_refusal t (malformed_at c) = Some (record { number = malformed_line; column = c; date = None })
 
 -- the history after it
 abbrev pub history_after_line : IntakeHistory → LineContent → IntakeHistory

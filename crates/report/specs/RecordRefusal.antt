@@ -11,6 +11,7 @@ use Rattle.rules.specs.declared.call.Call.{Call}
 use Rattle.terms.specs.Refusal.{number_of, date_named}
 use Rattle.report.specs.IntakeHistory.{IntakeHistory, call_of_record, history_with_record, largest_book, opened, unopened}
 use Rattle.line_format.specs.Limits.{verdict}
+use Rattle.terms.specs.RefusalNumbers.{out_of_turn}
 
 -- a refusal with its place: its number, the first column of the leftmost field at fault, and the
 -- date of the day that it names, if it names one
@@ -37,8 +38,8 @@ is_in_turn (unopened fs) x = is_before_book x
 is_in_turn (opened s h) x = not (is_before_book x)
 
 -- a record out of its turn, at the tag
-abbrev pub out_of_turn : PlacedRefusal
-out_of_turn = record { number = 2; column = 1; date = None }
+abbrev pub turn_refusal : PlacedRefusal
+turn_refusal = record { number = out_of_turn; column = 1; date = None }
 
 -- its numbers are within the limits of the largest book, and its dates exist
 abbrev pub IsWithinLimits : Record → Type 0
@@ -82,7 +83,7 @@ refusal_by_book (opened s h) x = book_refusal s h x (call_of_record x)
 -- else the book's; none where it is accepted
 abbrev pub record_refusal : IntakeHistory → Record → Option PlacedRefusal
 record_refusal t x =
-    if is_in_turn t x then option_or (refusal_by_limits x) (refusal_by_book t x) else Some out_of_turn
+    if is_in_turn t x then option_or (refusal_by_limits x) (refusal_by_book t x) else Some turn_refusal
 
 -- what is refused leaves the history as it is
 abbrev pub history_unless_refused : Option PlacedRefusal → IntakeHistory → IntakeHistory → IntakeHistory

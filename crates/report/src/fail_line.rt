@@ -22,7 +22,7 @@ impl fmt::Display for FailLine {
         } = self.0;
         let layer = layer.number();
         let number = refusal.number();
-        let day = refusal.day().unwrap_or(0);
+        let day = refusal.date().unwrap_or(0);
         write!(
             f,
             "FAIL{line:>10}{layer:>10}{number:>10}{column:>10}{day:>10}"

@@ -2,7 +2,7 @@ ghost use Rattle.std.specs.Prelude.{◌≡◌, true, None, IfOk, OnErr, Option, 
 ghost use Rattle.line_format.specs.declared.record.Record.TheVariants as of;
 ghost use Rattle.report.specs.Intake.{AcceptsRecord, EntersLine, EntersRecord, InEveryHistory, IsIntakeOf, KeepsEntries, TakesLine, is_turn_at};
 ghost use Rattle.report.specs.IntakeHistory.{call_of_record, day_count_of, initial_history, reported_day};
-ghost use Rattle.report.specs.RecordRefusal.{IsWithinLimits, is_before_book, out_of_turn, placed_refusal};
+ghost use Rattle.report.specs.RecordRefusal.{IsWithinLimits, is_before_book, turn_refusal, placed_refusal};
 
 use super::day_line::DayLine;
 use super::opened_book::LARGEST_BOOK;
@@ -15,8 +15,8 @@ use std::alloc::{AllocError, Global};
 use std::mem;
 use terms::Refusal;
 
-// The meters of a day's interval energies, as the ledger has them.
-const METERS: usize = 32;
+// The meters of a day's interval energies.
+const METERS: usize = allocation::METERS as usize;
 
 // The places of a book for readings.
 const READING_PLACES: usize = 256;
@@ -99,7 +99,7 @@ impl Intake {
     // Refuses a record that is out of its turn.
     fn judge_turn(&self, record: &Record) -> Result<(), Fault>
         ensures { placed_refusal result
-            ≡ (if is_turn_at self.now.stage «record».now then None else Option.Some out_of_turn) }
+            ≡ (if is_turn_at self.now.stage «record».now then None else Option.Some turn_refusal) }
     {
         let is_before_book = is_before_book(record);
         match (&self.stage, is_before_book) {

@@ -3,7 +3,7 @@ use Rattle.std.specs.Prelude.{◌≡◌, ℕ, ◌+◌, ◌-◌, Bool, true, fals
 use Rattle.std.specs.List.{list_any}
 use Rattle.calendar.specs.Digits.{day_number_of, is_date, date_of_day_number}
 use Rattle.estimators.specs.Limits.{greatest_count}
-use Rattle.allocation.specs.Loads.{largest_gate}
+use Rattle.allocation.specs.Loads.{largest_gate, largest_interval, meters}
 use Rattle.rules.specs.Figures.{load}
 use Rattle.rules.specs.History.{History, Setting, covered_days, enrolment_of}
 use Rattle.rules.specs.Readings.{held_readings, is_mark, replaces}
@@ -14,20 +14,9 @@ use Rattle.rules.specs.declared.entry.Enrolment.{Enrolment}
 use Rattle.rules.specs.declared.entry.Entry.{Entry}
 use Rattle.rules.specs.declared.entry.Entry.TheVariants.{Enrolled, GateEntered, IntervalEntered, DegreeDaysEntered, ReadingTaken}
 use Rattle.rules.specs.declared.entry.Reading.{Reading}
+use Rattle.terms.specs.Limits.{largest_energy, retailers}
 use Rattle.terms.specs.ReadingType.{is_firm}
-
--- how many retailers and interval meters there are, and the most that a meter burns on a day and that a reading has
-abbrev pub retailers : ℕ
-retailers = 16
-
-abbrev pub meters : ℕ
-meters = 32
-
-abbrev pub largest_interval : ℕ
-largest_interval = 100000000
-
-abbrev pub largest_energy : ℕ
-largest_energy = 10000000
+use Rattle.terms.specs.RefusalNumbers.{asked_day_without_load, beyond_limits, covered_day_without_load, end_not_allowed, negative_energy, no_such_date, outside_book, point_enrolled_already, point_not_enrolled, reading_places_full, soft_over_firm, start_is_no_mark}
 
 -- Dates, days and energies of a call.
 
@@ -195,18 +184,18 @@ pub record Condition : Type 0 where
 -- the conditions of a call's refusals, in the order of their numbers
 abbrev pub conditions : Setting → History → Call → List Condition
 conditions s h c =
-    record { number = 3; holds = is_beyond_limits s c }
-    ∷ record { number = 4; holds = names_no_date c }
-    ∷ record { number = 5; holds = names_day_outside_book s c }
-    ∷ record { number = 6; holds = has_negative_energy c }
-    ∷ record { number = 7; holds = names_unenrolled_point h c }
-    ∷ record { number = 8; holds = enrols_again h c }
-    ∷ record { number = 9; holds = reading_passes (starts_at_no_mark h) (entry_of s c) }
-    ∷ record { number = 10; holds = reading_passes (ends_where_not_allowed h) (entry_of s c) }
-    ∷ record { number = 11; holds = reading_passes (covers_day_without_load s h) (entry_of s c) }
-    ∷ record { number = 12; holds = reading_passes (replaces_firm_though_soft h) (entry_of s c) }
-    ∷ record { number = 13; holds = reading_passes (finds_no_place s h) (entry_of s c) }
-    ∷ record { number = 14; holds = asks_day_without_load s h c } ∷ []
+    record { number = beyond_limits; holds = is_beyond_limits s c }
+    ∷ record { number = no_such_date; holds = names_no_date c }
+    ∷ record { number = outside_book; holds = names_day_outside_book s c }
+    ∷ record { number = negative_energy; holds = has_negative_energy c }
+    ∷ record { number = point_not_enrolled; holds = names_unenrolled_point h c }
+    ∷ record { number = point_enrolled_already; holds = enrols_again h c }
+    ∷ record { number = start_is_no_mark; holds = reading_passes (starts_at_no_mark h) (entry_of s c) }
+    ∷ record { number = end_not_allowed; holds = reading_passes (ends_where_not_allowed h) (entry_of s c) }
+    ∷ record { number = covered_day_without_load; holds = reading_passes (covers_day_without_load s h) (entry_of s c) }
+    ∷ record { number = soft_over_firm; holds = reading_passes (replaces_firm_though_soft h) (entry_of s c) }
+    ∷ record { number = reading_places_full; holds = reading_passes (finds_no_place s h) (entry_of s c) }
+    ∷ record { number = asked_day_without_load; holds = asks_day_without_load s h c } ∷ []
 
 -- the number of the first condition that holds
 abbrev pub first_refusal : List Condition → Option ℕ

@@ -3,6 +3,7 @@ use Rattle.std.specs.Prelude.{ℕ, ◌+◌, ◌-◌, Bool, false, if◌then◌el
 use Rattle.std.specs.List.{range_with_len}
 use Rattle.std.specs.Option.{option_map, unwrap_or}
 use Rattle.allocation.specs.Loads as loads
+use Rattle.allocation.specs.Loads.{meters}
 use Rattle.allocation.specs.Sharing.{shares}
 use Rattle.rules.specs.History.{History, Setting, covered_days, covering_reading, degree_day_count, enrolment_of, gate_of, interval_energy}
 use Rattle.rules.specs.declared.entry.Enrolment.{Enrolment}
@@ -11,9 +12,9 @@ use Rattle.rules.specs.declared.entry.Reading.{Reading}
 
 -- Loads.
 
--- the sum of what the 32 interval meters burn on a day
+-- the sum of what the interval meters burn on a day
 abbrev pub interval_total : History → (day : ℕ) → ℕ
-interval_total h d = sum (map (λ m. interval_energy h m d) (range_with_len 1 32))
+interval_total h d = sum (map (λ m. interval_energy h m d) (range_with_len 1 meters))
 
 -- the net system load of a day with these gate energies
 abbrev pub load_from_gate : Setting → History → (day : ℕ) → GateDay → ℕ

@@ -64,7 +64,7 @@ pub(crate) enum PointStatus {
 }
 
 // The largest energy of a reading, in megajoules.
-const LARGEST_ENERGY: u64 = 10_000_000;
+const LARGEST_ENERGY: u64 = terms::LARGEST_ENERGY as u64;
 
 // A day without a load, by its weight.
 const DAY_WITHOUT_LOAD: ReadingDay = ReadingDay {

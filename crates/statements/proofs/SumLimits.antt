@@ -6,7 +6,7 @@ use Rattle.rules.specs.History.{enrolment_of, degree_day_count}
 use Rattle.rules.proofs.Bounds.{figure_bounded, load_bounded, sum_bounded}
 use Rattle.book.specs.Book.{IsBookOf}
 use Rattle.book.specs.Case.{Case}
-use Rattle.book.specs.Meanings.{Meanings}
+use Rattle.estimators.specs.Meaning.{Meanings}
 use Rattle.book.specs.declared.book.Book.{Book}
 use Rattle.statements.specs.Limits.{largest_sum}
 use Rattle.statements.specs.Spans.{sum_over}

@@ -8,7 +8,7 @@ use Rattle.terms.specs.Refusal.{number_of, date_named}
 use Rattle.terms.specs.declared.refusal.Refusal.{Refusal}
 use Rattle.book.specs.Book.{InEveryCase}
 use Rattle.book.specs.Days.{AreDaysOf, span_is_backwards, span_leaves_book, span_names_no_date}
-use Rattle.book.specs.Meanings.{Meanings}
+use Rattle.estimators.specs.Meaning.{Meanings}
 use Rattle.book.specs.Replies.{IsJudgedBy}
 use Rattle.book.specs.declared.book.Book.{Book}
 use Rattle.book.specs.declared.book.Days.{Days}
@@ -18,17 +18,18 @@ use Rattle.statements.specs.declared.statement.Span.{Span}
 use Rattle.statements.specs.declared.statement.Statement.{Statement}
 use Rattle.statements.specs.declared.sums.Sums.{Sums}
 use Rattle.rules.specs.Calls.{date_of_day, first_refusal, first_day_without_load}
+use Rattle.terms.specs.RefusalNumbers.{asked_day_without_load, end_not_allowed, list_too_short, no_such_date, outside_book}
 
 -- the refusal of a draw over a span into a list of so many places, of which so many are wanted; none where it
 -- is drawn: 14 where a day has no load, 15 where the list is too short
 abbrev pub draw_refusal : Setting → History → Span → ℕ → ℕ → Option ℕ
 draw_refusal s h span wanted places =
     first_refusal
-    (record { number = 4; holds = span_names_no_date span.first span.last }
-    ∷ record { number = 5; holds = span_leaves_book s span.first span.last }
-    ∷ record { number = 10; holds = span_is_backwards span.first span.last }
-    ∷ record { number = 14; holds = is_some (first_day_without_load s h (span_days s span)) }
-    ∷ record { number = 15; holds = nat_lt places wanted } ∷ [])
+    (record { number = no_such_date; holds = span_names_no_date span.first span.last }
+    ∷ record { number = outside_book; holds = span_leaves_book s span.first span.last }
+    ∷ record { number = end_not_allowed; holds = span_is_backwards span.first span.last }
+    ∷ record { number = asked_day_without_load; holds = is_some (first_day_without_load s h (span_days s span)) }
+    ∷ record { number = list_too_short; holds = nat_lt places wanted } ∷ [])
 
 -- the day that a refused draw names, by its date: the first of the span that has no load
 abbrev pub draw_named : Setting → History → Span → ℕ → Option ℕ

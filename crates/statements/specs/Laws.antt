@@ -11,6 +11,7 @@ use Rattle.statements.specs.Sums.{excess_over, load_over, remainder_over, retail
 use Rattle.statements.specs.declared.statement.Span.{Span}
 use Rattle.statements.specs.declared.sums.Sums.{Sums}
 use Rattle.rules.specs.Calls.{IsLawful, first_refusal, first_day_without_load, day_of_date}
+use Rattle.terms.specs.RefusalNumbers.{asked_day_without_load, list_too_short}
 
 -- the sums of the last of some stages
 abbrev pub last_of : Sums → List Sums → Sums
@@ -59,8 +60,8 @@ pub record SpansAreJudgedAndSummed : Type 0 where
       → draw_refusal s h span wanted places
       ≡ option_or (span_refusal s span)
       (first_refusal
-      (record { number = 14; holds = is_some (first_day_without_load s h (span_days s span)) }
-      ∷ record { number = 15; holds = nat_lt places wanted } ∷ []))
+      (record { number = asked_day_without_load; holds = is_some (first_day_without_load s h (span_days s span)) }
+      ∷ record { number = list_too_short; holds = nat_lt places wanted } ∷ []))
   -- sums over days: of none, of one more, of days on both sides of a day, of numbers that agree, and at most
   pub of_none : (f : ℕ → ℕ) (d : ℕ) → sum_over f d 0 ≡ 0
   pub of_one_more : (f : ℕ → ℕ) (d n : ℕ) → sum_over f d (n + 1) ≡ sum_over f d n + f (d + n)

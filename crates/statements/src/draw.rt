@@ -1,5 +1,5 @@
 ghost use Rattle.std.specs.Prelude.{◌≡◌, ℕ, ◌+◌, ◌<◌, ◌≤◌, min, IfOk, OnOk, Result};
-ghost use Rattle.book.specs.Meanings.{meanings_of};
+ghost use Rattle.estimators.specs.Meaning.{meanings_of};
 ghost use Rattle.terms.specs.declared.refusal.Refusal.{Refusal};
 ghost use Rattle.statements.specs.Draws.{GivesSums, JudgesDraw, JudgesLoads, SumsAll, SumsRemainder, SumsRetailer, TellsRemainder};
 ghost use Rattle.statements.specs.Limits.{largest_sum};

@@ -1,5 +1,5 @@
 ghost use Rattle.std.specs.Prelude.{◌≡◌, length, ◌≤◌, IfErr, IfOk, OnErr};
-ghost use Rattle.book.specs.Meanings.{meanings_of};
+ghost use Rattle.estimators.specs.Meaning.{meanings_of};
 ghost use Rattle.statements.specs.Draws.{DrawsByLaw};
 ghost use Rattle.statements.specs.Limits.{later_places, sum_count};
 ghost use Rattle.statements.specs.Lists.{first_list, later_list};

@@ -2,7 +2,7 @@ ghost use Rattle.std.specs.Prelude.{◌≡◌, ℕ, ◌+◌, ◌<◌, ◌≤◌,
 ghost use Rattle.statements.specs.Limits.{largest_sum, later_places, sum_count};
 
 /// The retailers of an area, numbered from 1.
-pub const RETAILERS: usize = 16;
+pub const RETAILERS: usize = terms::RETAILERS as usize;
 
 /// The sums of a statement: each retailer's, and the host remainder's. A first stage writes so many numbers.
 pub const SUMS: usize = RETAILERS + 1;

@@ -1,7 +1,7 @@
 use Rattle.std.proofs.Common.{◌≡◌, ℕ, ◌+◌, ◌<◌, ◌≤◌, true, is_some}
 use Rattle.rules.specs.Figures.{load}
 use Rattle.book.specs.Book.{InEveryCase}
-use Rattle.book.specs.Meanings.{meanings_of}
+use Rattle.estimators.specs.Meaning.{meanings_of}
 use Rattle.statements.proofs.draw.judge_loads.Given as goal
 
 abbrev pub invariant-loop-place : goal.invariant-loop-place

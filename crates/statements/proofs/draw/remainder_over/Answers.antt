@@ -1,6 +1,6 @@
 use Rattle.std.proofs.Common.{◌≡◌, ◌+◌, ◌<◌, Ok, ap, ◌∙◌, is_some, true, unwrap_or, arith, rules}
 use Rattle.rules.specs.Figures.{load}
-use Rattle.book.specs.Meanings.{meanings_of}
+use Rattle.estimators.specs.Meaning.{meanings_of}
 use Rattle.statements.specs.Draws.{TellsRemainder}
 use Rattle.statements.specs.Spans.{span_day_count}
 use Rattle.statements.specs.Sums.{remainder_on}

@@ -1,7 +1,7 @@
 use Rattle.std.proofs.Common.{◌≡◌, ℕ, ◌+◌, ◌<◌, ◌≤◌, length, get_or}
 use Rattle.book.specs.Book.{InEveryCase}
 use Rattle.book.specs.Days.{AreDaysOf}
-use Rattle.book.specs.Meanings.{meanings_of}
+use Rattle.estimators.specs.Meaning.{meanings_of}
 use Rattle.statements.specs.Limits.{largest_sum}
 use Rattle.statements.specs.Sums.{retailer_over}
 use Rattle.statements.specs.declared.statement.Span.{Span}

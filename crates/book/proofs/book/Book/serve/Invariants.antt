@@ -1,7 +1,7 @@
 use Rattle.std.proofs.Common.{◌≡◌, T, length, take, drop}
 use Rattle.std.specs.List.{list_all}
 use Rattle.book.specs.Book.{InEveryCase}
-use Rattle.book.specs.Meanings.{meanings_of}
+use Rattle.estimators.specs.Meaning.{meanings_of}
 use Rattle.book.specs.Replies.{changes_nothing}
 use Rattle.book.proofs.Runs.{Ran}
 use Rattle.book.proofs.book.Book.serve.Given as goal

@@ -15,5 +15,5 @@ returns-clause-writes g c = λ p ok.
     let layer_is = c.number-layer.ensures in
     let number_is = c.number-number.ensures in
     let or_none = c.unwrap_or-day.ensures in
-    let day_is = c.day.ensures in
+    let day_is = c.date.ensures in
     has_written_of_eq _ _ _ _ _ (rw (line, layer, number, column, day, layer_is, number_is, or_none, day_is) (simp append-nil)) (c.write.ensures.writes p ok)
