@@ -24,7 +24,7 @@ use Rattle.terms.specs.Limits.{largest_energy}
 use Rattle.terms.specs.RefusalNumbers.{beyond_limits}
 use Rattle.estimators.specs.Limits.{last_day}
 use Rattle.apportion.specs.Limits.{largest_load, loads_within, is_sized}
-use Rattle.apportion.specs.Table.{day_line, line_of, lines_of, shares_of, table, weights, weights_of}
+use Rattle.apportion.specs.Table.{line_of, lines_of, shares_of, table, weights_of, table_line, load_weights}
 use Rattle.apportion.specs.declared.table.DayLine.{DayLine}
 
 abbrev pub Within : List ℕ → Type 0
@@ -38,13 +38,13 @@ decides_within =
 -- the first i loads are within their limit and weighed
 pub record Weighed (loads : List ℕ) (i : ℕ) (days : List ReadingDay) : Type 0 where
   pub within : Within (take i loads)
-  pub weighed : weights_of days ≡ weights (take i loads)
+  pub weighed : weights_of days ≡ load_weights (take i loads)
 
 -- what `ReadingDay::new` answers for weight w
 abbrev pub New : ℕ → Result ReadingDay Refusal → Type 0
 New w r = AnswersBy r (leb w largest_day_weight) (λ day. (day.weight ≡ w) × (day.share ≡ 0)) beyond_limits
 
-pub weighed_all : {loads : List ℕ} {i : ℕ} {days : List ReadingDay} → length loads ≤ i → Weighed loads i days → (loads_within loads ≡ true) × (weights_of days ≡ weights loads)
+pub weighed_all : {loads : List ℕ} {i : ℕ} {days : List ReadingDay} → length loads ≤ i → Weighed loads i days → (loads_within loads ≡ true) × (weights_of days ≡ load_weights loads)
 weighed_all {loads} {i} past w =
     let all : take i loads ≡ loads = take_all i loads past in
     ((decides_within loads).1 (rw all at w.within), rw all at w.weighed)
@@ -57,7 +57,7 @@ too_heavy loads {i} {w} e in_loads w_is new =
     let not_all : Within loads → ⊥ = λ all. omega (arith, leb-false _ _ heavy, All-get_or (λ load. load ≤ largest_load) loads i 0 in_loads all) in
     (⊎_elim (λ yes_all. absurd (not_all ((decides_within loads).0 yes_all))) (λ none. none) (cases_Bool (loads_within loads)), since.1)
 
-same_line : {l l' w w' r r' t t' : ℕ} → l ≡ l' → w ≡ w' → r ≡ r' → t ≡ t' → day_line l w r t ≡ day_line l' w' r' t'
+same_line : {l l' w w' r r' t t' : ℕ} → l ≡ l' → w ≡ w' → r ≡ r' → t ≡ t' → table_line l w r t ≡ table_line l' w' r' t'
 same_line p q r s = cc
 
 -- the lines of the first i days are written, and run is the sum of their weights
@@ -91,7 +91,7 @@ module _ {loads : List ℕ} {days : List ReadingDay} {i run : ℕ} {lines : List
   written_more line load_is weight_is running_is taken_is = record {
     run_is = run_next;
     lines_are =
-        let line_is : line ≡ day_line (get_or loads i 0) day.weight (run + day.weight) day.share = same_line load_is weight_is running_is taken_is in
+        let line_is : line ≡ table_line (get_or loads i 0) day.weight (run + day.weight) day.share = same_line load_is weight_is running_is taken_is in
         let more = map-range_with_len_more (line_of loads days) 0 i i (omega arith) in
         cc (before.lines_are, line_is, run_next, weight_read, share_read, more);
   }
@@ -109,21 +109,21 @@ sized_parts energy loads fits =
     record { small = leb-true _ _ parts.0; some = leb-true _ _ counts.0; few = leb-true _ _ counts.1 }
 
 -- within its limits an energy can always be shared over the weights of loads
-pub always_shared : (energy : ℕ) (loads : List ℕ) (days : List ReadingDay) → is_sized energy loads ≡ true → weights_of days ≡ weights loads → can_share largest_day_weight energy (weights_of days) ≡ true
+pub always_shared : (energy : ℕ) (loads : List ℕ) (days : List ReadingDay) → is_sized energy loads ≡ true → weights_of days ≡ load_weights loads → can_share largest_day_weight energy (weights_of days) ≡ true
 always_shared energy loads days fits weighed =
     let parts = sized_parts energy loads fits in
-    let first = get_or-le-sum_by (λ x. x) (weights loads) 0 0 (rw (length-map loads weight) parts.some) in
+    let first = get_or-le-sum_by (λ x. x) (load_weights loads) 0 0 (rw (length-map loads weight) parts.some) in
     let read = get_or-map weight loads 0 0 0 parts.some in
     let product = mul-le energy (length loads) largest_energy last_day parts.small parts.few in
-    let small : energy * length (weights loads) * largest_day_weight ≤ largest_product = rw (length-map loads weight) (omega (arith, product)) in
+    let small : energy * length (load_weights loads) * largest_day_weight ≤ largest_product = rw (length-map loads weight) (omega (arith, product)) in
     rw weighed (and_from _ _ (le-leb _ _ small) (lt-ltb _ _ (omega (arith, first, weight_positive (get_or loads 0 0), read))))
 
 -- the lines by the weights and the shares of the days
 abbrev by_days : List ℕ → List ℕ → List ℕ → List DayLine
-by_days loads ws ss = map (λ k. day_line (get_or loads k 0) (get_or ws k 0) (running_sum ws (k + 1)) (get_or ss k 0)) (range_with_len 0 (length loads))
+by_days loads ws ss = map (λ k. table_line (get_or loads k 0) (get_or ws k 0) (running_sum ws (k + 1)) (get_or ss k 0)) (range_with_len 0 (length loads))
 
 -- the lines of days that have taken their shares are those of the table
-pub lines_of_shared : (energy : ℕ) (loads : List ℕ) (days : List ReadingDay) → weights_of days ≡ weights loads → lines_of loads (rows_with_shares with_share days (shares energy (weights_of days))) ≡ table energy loads
+pub lines_of_shared : (energy : ℕ) (loads : List ℕ) (days : List ReadingDay) → weights_of days ≡ load_weights loads → lines_of loads (rows_with_shares with_share days (shares energy (weights_of days))) ≡ table energy loads
 lines_of_shared energy loads days weighed =
     let ss = shares energy (weights_of days) in
     let kept : weights_of (rows_with_shares with_share days ss) ≡ weights_of days = rows_with_shares_keep with_share (λ (d : ReadingDay). d.weight) (λ _ _. refl) days ss in
@@ -131,4 +131,4 @@ lines_of_shared energy loads days weighed =
     rows_with_shares_show with_share (λ (d : ReadingDay). d.share) (λ _ _. refl) days ss
     (omega (arith, length_shares energy (weights_of days), length-map days (λ (d : ReadingDay). d.weight))) in
     ap (λ ws. by_days loads ws (shares_of (rows_with_shares with_share days ss))) (kept ∙ weighed)
-    ∙ ap (by_days loads (weights loads)) (shown ∙ ap (shares energy) weighed)
+    ∙ ap (by_days loads (load_weights loads)) (shown ∙ ap (shares energy) weighed)

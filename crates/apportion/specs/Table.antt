@@ -6,8 +6,8 @@ use Rattle.allocation.specs.Sharing.{running_sum, shares}
 use Rattle.allocation.specs.declared.reading_day.ReadingDay.{ReadingDay}
 use Rattle.apportion.specs.declared.table.DayLine.{DayLine}
 
-abbrev pub day_line : ℕ → ℕ → ℕ → ℕ → DayLine
-day_line load weight running_sum share = record {
+abbrev pub table_line : ℕ → ℕ → ℕ → ℕ → DayLine
+table_line load weight running_sum share = record {
   load = load;
   weight = weight;
   running_sum = running_sum;
@@ -15,14 +15,14 @@ day_line load weight running_sum share = record {
 }
 
 -- the weights of loads
-abbrev pub weights : List ℕ → List ℕ
-weights loads = map weight loads
+abbrev pub load_weights : List ℕ → List ℕ
+load_weights loads = map weight loads
 
 -- day k, counted from 0: its load, its weight, the weights up to it, and its share of the energy
 abbrev pub line_at : ℕ → List ℕ → ℕ → DayLine
 line_at energy loads k =
-    day_line (slice_index loads k) (slice_index (weights loads) k) (running_sum (weights loads) (k + 1))
-    (slice_index (shares energy (weights loads)) k)
+    table_line (slice_index loads k) (slice_index (load_weights loads) k) (running_sum (load_weights loads) (k + 1))
+    (slice_index (shares energy (load_weights loads)) k)
 
 -- a line for each day
 abbrev pub table : ℕ → List ℕ → List DayLine
@@ -38,7 +38,7 @@ shares_of days = map (λ day. day.share) days
 -- the line of day k, counted from 0, from its load and from what it weighs and has taken
 abbrev pub line_of : List ℕ → List ReadingDay → ℕ → DayLine
 line_of loads days k =
-    day_line (slice_index loads k) (slice_index (weights_of days) k) (running_sum (weights_of days) (k + 1))
+    table_line (slice_index loads k) (slice_index (weights_of days) k) (running_sum (weights_of days) (k + 1))
     (slice_index (shares_of days) k)
 
 -- a line for each day, from its load and from what it weighs and has taken

@@ -4,7 +4,7 @@ ghost use Rattle.allocation.specs.SharingLimits.{largest_day_weight};
 ghost use Rattle.allocation.specs.Sharing.{running_sum};
 ghost use Rattle.apportion.specs.Fault.{MakesWhere};
 ghost use Rattle.apportion.specs.Limits.{can_spread, is_sized, loads_within};
-ghost use Rattle.apportion.specs.Table.{lines_of, table, weights, weights_of};
+ghost use Rattle.apportion.specs.Table.{lines_of, table, weights_of, load_weights};
 
 use super::fault::Fault;
 use super::request::LARGEST_ENERGY;
@@ -43,7 +43,7 @@ fn shared_lines(
     days: &mut [ReadingDay],
 ) -> Result<Vec<DayLine>, Fault>
     requires sized { is_sized energy loads.now ≡ true }
-    requires weighed { weights_of days.old ≡ weights loads.now }
+    requires weighed { weights_of days.old ≡ load_weights loads.now }
     ensures { MakesWhere true (λ lines. lines.items ≡ table energy loads.now) result }
 {
     share(energy, days)?;
@@ -53,7 +53,7 @@ fn shared_lines(
 // The days of these loads, with no share yet.
 fn weighed_days(heap: Global, loads: &[u64]) -> Result<Vec<ReadingDay>, Fault>
     ensures { MakesWhere (loads_within loads.now)
-        (λ days. weights_of days.items ≡ weights loads.now) result }
+        (λ days. weights_of days.items ≡ load_weights loads.now) result }
 {
     let mut days = Vec::new(heap);
     for load in loads {

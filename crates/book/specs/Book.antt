@@ -81,4 +81,5 @@ pub record ChangesLedgerOnly (call : Call) (r : Result Entry Refusal) (b b' : Bo
 abbrev pub SheetTakes : Entry → Ledger → Meaning → Sheet → Sheet → Type 0
 SheetTakes e l m b b' =
     (s : Setting) (rest : List ℕ) (h : History)
-    → IsLawful s (e ∷ h) → IsLedgerOf s (e ∷ h) l → MeansEstimates s (e ∷ h) m → IsSheetOf s rest h b → IsSheetOf s rest (e ∷ h) b'
+    → IsLawful s (e ∷ h) → IsLedgerOf s (e ∷ h) l → MeansEstimates s (e ∷ h) m → IsSheetOf s rest h b
+    → IsSheetOf s rest (e ∷ h) b'

@@ -24,7 +24,8 @@ pub record Moment (s : Setting) (h : History) : Type 0 where
   -- a point's day that its accepted readings cover shows the share of the last one covering it, by the latest loads
   pub covered_day : (p d : ℕ) (r : Reading) → covering_reading h p d ≡ Some r → figure s h p d ≡ share_on s h d r
   -- supplied energy is never rescaled: whatever an estimator means, supplied figures are the same
-  pub supplied_stands : (t : Setting) (p d : ℕ) → s.unaccounted ≡ t.unaccounted → supplied_figure s h p d ≡ supplied_figure t h p d
+  pub supplied_stands :
+      (t : Setting) (p d : ℕ) → s.unaccounted ≡ t.unaccounted → supplied_figure s h p d ≡ supplied_figure t h p d
   -- any other day from the start day on shows the latest estimate, none counting 0
   pub estimated_day :
       (p d : ℕ) → 1 ≤ p → p ≤ s.points → is_estimated h p d ≡ true → is_scaled s h d ≡ false
@@ -55,7 +56,8 @@ Moves s h (EnterInterval date meter energy) =
 Moves s h (EnterDegreeDays date count) =
     ((d : ℕ) → (d ≢ day_of_date s date) → SameDay s h (history_after_call s h (EnterDegreeDays date count)) d)
     × ((p : ℕ) → 1 ≤ p → is_estimated h p (day_of_date s date) ≡ false
-    → figure s (history_after_call s h (EnterDegreeDays date count)) p (day_of_date s date) ≡ figure s h p (day_of_date s date))
+    → figure s (history_after_call s h (EnterDegreeDays date count)) p (day_of_date s date)
+    ≡ figure s h p (day_of_date s date))
 Moves s h (EnterReading delivery) =
     ((d : ℕ) → (d < day_of_date s delivery.start) ⊎ (day_of_date s delivery.end ≤ d)
     → SameDay s h (history_after_call s h (EnterReading delivery)) d)

@@ -49,7 +49,8 @@ changes_nothing r = true
 -- what a call that is not refused is answered
 abbrev pub granted_reply : Setting → History → Call → Reply
 granted_reply s h (AskFigure point date) = figure_is (figure s h point (day_of_date s date))
-granted_reply s h (AskDay date) = day_is (account s h (day_of_date s date) (unwrap_or (load s h (day_of_date s date)) 0))
+granted_reply s h (AskDay date) =
+    day_is (account s h (day_of_date s date) (unwrap_or (load s h (day_of_date s date)) 0))
 granted_reply s h (AskRetailer retailer date) = sum_is (retailer_sum s h retailer (day_of_date s date))
 granted_reply s h call = accepted
 

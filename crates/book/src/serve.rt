@@ -12,7 +12,7 @@ use super::book::{Book, Lists};
 use estimators::{Estimator, Weather};
 use ledger::{OpeningRequest, Unopened};
 use rules::Call;
-use sheet::{Account};
+use sheet::Account;
 use terms::Refusal;
 
 /// What a call that is not refused is answered. Energies are in megajoules.

@@ -2,7 +2,7 @@
 use book::{Answer, Book, Lists, OpeningRequest};
 use estimators::Weather;
 use rules::{Call, Delivery};
-use sheet::{Account};
+use sheet::Account;
 use std::alloc::Global;
 use std::process::Abort;
 use std::test::Fail;

@@ -4,7 +4,10 @@ ghost use Rattle.estimators.specs.Limits.{greatest_figure, point_within, day_pla
 ghost use Rattle.estimators.specs.Meaning.{weather_within};
 ghost use Rattle.book_tests.specs.Laws.{none_bounded, greatest_bounded, greatest_ranged};
 
-use estimators::{Estimator, GREATEST_FIGURE, Weather, count_within, day_place_within, judge_weather, point_within};
+use estimators::{
+    Estimator, GREATEST_FIGURE, Weather, count_within, day_place_within, judge_weather,
+    point_within,
+};
 use terms::Refusal;
 
 // Knows no figure at all.

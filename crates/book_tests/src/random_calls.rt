@@ -9,7 +9,7 @@ use book::{Answer, Book, OpeningRequest};
 use estimates::{ByWeather, Factors};
 use estimators::Weather;
 use rules::Call;
-use sheet::{Account};
+use sheet::Account;
 use std::alloc::{AllocError, Global};
 use std::process::Abort;
 use std::test::Fail;

@@ -51,7 +51,8 @@ impl Observations {
     ///
     /// `BeyondLimits` (3) where an observation or the day of the year is beyond its limits.
     pub fn degree_days(&self, day_of_year: u32) -> Result<u32, Refusal>
-        ensures answer { Answers result (has_count self.now day_of_year) (degree_days self.now day_of_year) beyond_limits }
+        ensures answer { Answers result (has_count self.now day_of_year)
+            (degree_days self.now day_of_year) beyond_limits }
         ensures bound { IfOk result (λ count. count ≤ largest_degree_days) }
     {
         let terms = self.terms(day_of_year)?;

@@ -15,7 +15,7 @@ use Rattle.terms.specs.declared.refusal.Refusal.{Refusal}
 use Rattle.terms.specs.declared.refusal.Refusal.TheVariants.{MalformedLine, OutOfTurn, BeyondLimits, NoSuchDate, OutsideBook, NegativeEnergy, PointNotEnrolled, PointEnrolledAlready, StartIsNoMark, EndNotAllowed, CoveredDayWithoutLoad, SoftOverFirm, ReadingPlacesFull, AskedDayWithoutLoad, ListTooShort}
 use Rattle.ledger.specs.Ledger.{IsEntryJudgement, IsLedgerOf}
 use Rattle.ledger.specs.Opening.{has_day_number}
-use Rattle.ledger.specs.Readings.{IsNumbersJudgement, IsSpanJudgement, is_end_allowed_at, is_full_at, is_mark_at, is_soft_over_firm_at, numbers_refusal, span_named, span_refusal}
+use Rattle.ledger.specs.Readings.{IsNumbersJudgement, IsSpanJudgement, is_end_allowed_at, is_full_at, is_mark_at, is_soft_over_firm_at, numbers_refusal, span_named, reading_span_refusal}
 use Rattle.ledger.proofs.Marks.{end_followed, full_followed, mark_followed, soft_followed}
 use Rattle.ledger.specs.declared.ledger.Ledger.{Ledger}
 
@@ -30,20 +30,20 @@ module _ {s : Setting} {h : History} {l : Ledger} (f : IsLedgerOf s h l) (r : Re
   loaded : None ≡ first_day_without_load s h (covered_days r) → covers_day_without_load s h r ≡ false
   loaded loads = ap is_some (sym loads)
 
-  pub no_start : is_mark_at l r.point r.start ≡ false → (span_refusal s h r ≡ Some 9) × (None ≡ span_named s h r 9)
-  unfolding span_refusal span_named
+  pub no_start : is_mark_at l r.point r.start ≡ false → (reading_span_refusal s h r ≡ Some 9) × (None ≡ span_named s h r 9)
+  unfolding reading_span_refusal span_named
   no_start start = (cond-true _ _ _ (not_from_false _ (sym (mark_followed f r.point r.start) ∙ start)), refl)
 
   pub no_end : is_mark_at l r.point r.start ≡ true → is_end_allowed_at l r ≡ false
-      → (span_refusal s h r ≡ Some 10) × (None ≡ span_named s h r 10)
-  unfolding span_refusal span_named
+      → (reading_span_refusal s h r ≡ Some 10) × (None ≡ span_named s h r 10)
+  unfolding reading_span_refusal span_named
   no_end start end = (cond-false _ _ _ (marked start) ∙ cond-true _ _ _ (sym (end_followed f r) ∙ not_from_false _ end), refl)
 
   pub no_day_load : (day date : ℕ) → is_mark_at l r.point r.start ≡ true
       → is_end_allowed_at l r ≡ true → Some day ≡ first_day_without_load s h (covered_days r)
       → date ≡ date_of_day_number (l.opening.first + day)
-      → (span_refusal s h r ≡ Some 11) × (Some date ≡ span_named s h r 11)
-  unfolding span_refusal span_named
+      → (reading_span_refusal s h r ≡ Some 11) × (Some date ≡ span_named s h r 11)
+  unfolding reading_span_refusal span_named
   no_day_load day date start end day_found dated = (
     cond-false _ _ _ (marked start) ∙ cond-false _ _ _ (allowed end) ∙ cond-true _ _ _ (ap is_some (sym day_found)),
     ap Some (dated ∙ ap (λ n. date_of_day_number (n + day)) f.first) ∙ ap (date_of_day s) day_found,
@@ -51,8 +51,8 @@ module _ {s : Setting} {h : History} {l : Ledger} (f : IsLedgerOf s h l) (r : Re
 
   pub no_soft : is_mark_at l r.point r.start ≡ true → is_end_allowed_at l r ≡ true
       → None ≡ first_day_without_load s h (covered_days r) → is_soft_over_firm_at l r ≡ true
-      → (span_refusal s h r ≡ Some 12) × (None ≡ span_named s h r 12)
-  unfolding span_refusal span_named
+      → (reading_span_refusal s h r ≡ Some 12) × (None ≡ span_named s h r 12)
+  unfolding reading_span_refusal span_named
   no_soft start end loads soft = (
     cond-false _ _ _ (marked start) ∙ cond-false _ _ _ (allowed end) ∙ cond-false _ _ _ (loaded loads) ∙ cond-true _ _ _ (sym (soft_followed f r) ∙ soft),
     refl,
@@ -60,8 +60,8 @@ module _ {s : Setting} {h : History} {l : Ledger} (f : IsLedgerOf s h l) (r : Re
 
   pub no_place : is_mark_at l r.point r.start ≡ true → is_end_allowed_at l r ≡ true
       → None ≡ first_day_without_load s h (covered_days r) → is_soft_over_firm_at l r ≡ false
-      → is_full_at l r ≡ true → (span_refusal s h r ≡ Some 13) × (None ≡ span_named s h r 13)
-  unfolding span_refusal span_named
+      → is_full_at l r ≡ true → (reading_span_refusal s h r ≡ Some 13) × (None ≡ span_named s h r 13)
+  unfolding reading_span_refusal span_named
   no_place start end loads soft full = (
     cond-false _ _ _ (marked start) ∙ cond-false _ _ _ (allowed end) ∙ cond-false _ _ _ (loaded loads) ∙ cond-false _ _ _ (sym (soft_followed f r) ∙ soft)
         ∙ cond-true _ _ _ (sym (full_followed f r) ∙ full),
@@ -70,8 +70,8 @@ module _ {s : Setting} {h : History} {l : Ledger} (f : IsLedgerOf s h l) (r : Re
 
   pub span_accepted : is_mark_at l r.point r.start ≡ true → is_end_allowed_at l r ≡ true
       → None ≡ first_day_without_load s h (covered_days r) → is_soft_over_firm_at l r ≡ false
-      → is_full_at l r ≡ false → span_refusal s h r ≡ None
-  unfolding span_refusal
+      → is_full_at l r ≡ false → reading_span_refusal s h r ≡ None
+  unfolding reading_span_refusal
   span_accepted start end loads soft full =
       cond-false _ _ _ (marked start) ∙ cond-false _ _ _ (allowed end) ∙ cond-false _ _ _ (loaded loads) ∙ cond-false _ _ _ (sym (soft_followed f r) ∙ soft)
       ∙ cond-false _ _ _ (sym (full_followed f r) ∙ full)
@@ -141,14 +141,14 @@ module _ (s : Setting) (h : History) (delivery : Delivery) where
   taken = reading_of s delivery
 
   -- the refusal of a reading: that of its numbers, else that of its span
-  in_turn : refusal s h call ≡ option_or (numbers_refusal s h call) (span_refusal s h taken)
-  unfolding span_refusal
-  in_turn = split (is_beyond_limits s call) (names_no_date call) (names_day_outside_book s call) (has_negative_energy call) (names_unenrolled_point h call) (span_refusal s h taken)
+  in_turn : refusal s h call ≡ option_or (numbers_refusal s h call) (reading_span_refusal s h taken)
+  unfolding reading_span_refusal
+  in_turn = split (is_beyond_limits s call) (names_no_date call) (names_day_outside_book s call) (has_negative_energy call) (names_unenrolled_point h call) (reading_span_refusal s h taken)
 
   pub numbers_refused : (e : Refusal) → IsNumbersJudgement s h call (Err e)
       → IsEntryJudgement s h call ReadingTaken (Err e)
   numbers_refused e judged = (
-    in_turn ∙ ap (λ o. option_or o (span_refusal s h taken)) judged.0,
+    in_turn ∙ ap (λ o. option_or o (reading_span_refusal s h taken)) judged.0,
     judged.1
         ∙ sym
         (cond-false _ _ _
@@ -158,8 +158,8 @@ module _ (s : Setting) (h : History) (delivery : Delivery) where
   same_reading : (r : Reading) → entry_of s call ≡ Some (ReadingTaken r) → taken ≡ r
   same_reading r e = cc
 
-  passed : (r : Reading) → IsNumbersJudgement s h call (Ok r) → refusal s h call ≡ span_refusal s h r
-  passed r numbers = in_turn ∙ ap (λ o. option_or o (span_refusal s h taken)) numbers.0 ∙ ap (span_refusal s h) (same_reading r numbers.1)
+  passed : (r : Reading) → IsNumbersJudgement s h call (Ok r) → refusal s h call ≡ reading_span_refusal s h r
+  passed r numbers = in_turn ∙ ap (λ o. option_or o (reading_span_refusal s h taken)) numbers.0 ∙ ap (reading_span_refusal s h) (same_reading r numbers.1)
 
   pub span_refused : (r : Reading) (e : Refusal) → IsNumbersJudgement s h call (Ok r)
       → IsSpanJudgement {X = Unit {0}} s h r (Err e)
@@ -169,5 +169,5 @@ module _ (s : Setting) (h : History) (delivery : Delivery) where
       (passed r numbers ∙ judged.0, judged.1 ∙ ap (λ x. span_named s h x (number_of e)) (sym (same_reading r numbers.1)))
 
   pub reading_accepted : (r : Reading) → IsNumbersJudgement s h call (Ok r)
-      → span_refusal s h r ≡ None → IsEntryJudgement s h call ReadingTaken (Ok r)
+      → reading_span_refusal s h r ≡ None → IsEntryJudgement s h call ReadingTaken (Ok r)
   reading_accepted r numbers judged = (passed r numbers ∙ judged, numbers.1)

@@ -74,8 +74,8 @@ IsNumbersJudgement s h c (Err e) =
     (numbers_refusal s h c ≡ Some (number_of e)) × (date_named e ≡ None)
 
 -- the refusals of a reading for its span, and for the readings that are held
-unfoldable pub span_refusal : Setting → History → Reading → Option ℕ
-span_refusal s h r =
+unfoldable pub reading_span_refusal : Setting → History → Reading → Option ℕ
+reading_span_refusal s h r =
     first_refusal
     (record { number = start_is_no_mark; holds = starts_at_no_mark h r }
     ∷ record { number = end_not_allowed; holds = ends_where_not_allowed h r }
@@ -88,9 +88,9 @@ unfoldable pub span_named : Setting → History → Reading → ℕ → Option �
 span_named s h r n = if n == 11 then date_of_day s (first_day_without_load s h (covered_days r)) else None
 
 abbrev pub IsSpanJudgement : {X : Type 0} → Setting → History → Reading → Result X Refusal → Type 0
-IsSpanJudgement s h r (Ok x) = span_refusal s h r ≡ None
+IsSpanJudgement s h r (Ok x) = reading_span_refusal s h r ≡ None
 IsSpanJudgement s h r (Err e) =
-    (span_refusal s h r ≡ Some (number_of e)) × (date_named e ≡ span_named s h r (number_of e))
+    (reading_span_refusal s h r ≡ Some (number_of e)) × (date_named e ≡ span_named s h r (number_of e))
 
 -- a ledger judges the numbers of a delivery so
 abbrev pub JudgesNumbers : Ledger → Delivery → Result Reading Refusal → Type 0

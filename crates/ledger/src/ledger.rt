@@ -11,10 +11,9 @@ ghost use Rattle.ledger.specs.Limits.{all_intervals_within, gate_within, opening
 ghost use Rattle.ledger.specs.Opening.{JudgesDay, has_day_number};
 ghost use Rattle.rules.specs.Calls.{is_between};
 
-use super::limits::{retailer_within};
-use allocation::{LARGEST_INTERVAL, METERS};
+use super::limits::retailer_within;
 use super::opening::{Opening, OpeningRequest, Unopened, clear_front, judge_opening};
-use allocation::{LARGEST_GATE, adjust_for_unaccounted, net_system_load};
+use allocation::{LARGEST_GATE, LARGEST_INTERVAL, METERS, adjust_for_unaccounted, net_system_load};
 use calendar::day_number_of;
 use estimators::{DAYS, GREATEST_COUNT, POINTS};
 use rules::{Enrolment, Entry, GateDay, Reading};

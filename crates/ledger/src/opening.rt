@@ -1,8 +1,7 @@
 ghost use Rattle.std.specs.Prelude.{◌≡◌, ◌++◌, map, take, drop};
 ghost use Rattle.ledger.specs.Opening.{JudgesOpening};
 
-use allocation::{METERS};
-use allocation::LARGEST_UNACCOUNTED;
+use allocation::{LARGEST_UNACCOUNTED, METERS};
 use calendar::{DAYS_IN_ALL, day_number_of};
 use estimators::{DAYS, POINTS};
 use terms::Refusal;

@@ -13,11 +13,10 @@ ghost use Rattle.terms.specs.ReadingType.{is_firm};
 ghost use Rattle.rules.specs.Calls.{is_after_all_marks, ends_where_not_allowed, first_day_without_load, replaces_firm_though_soft};
 
 use super::ledger::Ledger;
-use terms::{LARGEST_ENERGY};
 use super::places::{all_passing, free_replaced, replaces, some_passing, take_place};
 use calendar::{date_of_day_number, day_number_of};
 use rules::{Delivery, Entry, Reading};
-use terms::Refusal;
+use terms::{LARGEST_ENERGY, Refusal};
 
 // Marks, and the readings that a ledger holds: judging a delivered reading, and holding it.
 impl Ledger {

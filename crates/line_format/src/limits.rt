@@ -7,14 +7,12 @@ ghost use Rattle.line_format.specs.Segment.{bytes_before};
 
 use super::fault::Fault;
 use super::field::Field;
-use allocation::{LARGEST_INTERVAL, METERS};
-use estimates::{GREATEST_BASE_LOAD, GREATEST_SENSITIVITY};
-use terms::{LARGEST_ENERGY, RETAILERS};
 use super::record::{Opening, Record};
-use allocation::{LARGEST_GATE, LARGEST_UNACCOUNTED};
+use allocation::{LARGEST_GATE, LARGEST_INTERVAL, LARGEST_UNACCOUNTED, METERS};
 use calendar::{DAYS_IN_ALL, day_number_of};
+use estimates::{GREATEST_BASE_LOAD, GREATEST_SENSITIVITY};
 use estimators::GREATEST_COUNT;
-use terms::Refusal;
+use terms::{LARGEST_ENERGY, RETAILERS, Refusal};
 
 /// The largest book that lines may speak of.
 #[derive(Clone, Copy, PartialEq, Eq, Debug)]

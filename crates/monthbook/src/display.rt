@@ -1,7 +1,7 @@
 // Calls and answers in words.
 use book::Answer;
 use rules::{Call, Delivery};
-use sheet::{Account};
+use sheet::Account;
 use std::fmt;
 use terms::Refusal;
 

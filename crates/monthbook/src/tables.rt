@@ -4,7 +4,7 @@ use super::display::{AnswerShown, CallShown, DateShown};
 use super::month::{DAYS, FIRST, LAST, POINTS};
 use book::Answer;
 use rules::Call;
-use sheet::{Account};
+use sheet::Account;
 use std::io;
 use terms::Refusal;
 

@@ -1,7 +1,7 @@
 ghost use Rattle.std.specs.Prelude.{Some};
 ghost use Rattle.report.specs.ReportLines.{day_text};
 
-use sheet::{Account};
+use sheet::Account;
 use std::fmt;
 
 /// The line of a day with a load in a report, without its line feed: `DAY`, and in ten columns each

@@ -14,7 +14,7 @@ use Rattle.allocation.specs.ShareLaws.{sum_shares}
 use Rattle.allocation.specs.SharingLimits.{largest_product}
 use Rattle.allocation.specs.Sharing.{can_share, shares}
 use Rattle.rules.specs.Calls.{IsLawful, entry_of, is_beyond_limits}
-use Rattle.rules.specs.Figures.{estimate, counted_estimate, is_estimated, estimates, figure, generated_figures, load, load_from_gate, share_on, supplied_figure, supplied_sum, weight, weights}
+use Rattle.rules.specs.Figures.{estimate, counted_estimate, is_estimated, estimates, figure, generated_figures, load, load_from_gate, share_on, supplied_figure, supplied_sum, weight_on, covered_weights}
 use Rattle.rules.specs.History.{History, Setting, covering_reading, gate_of}
 use Rattle.rules.specs.declared.call.Call.{Call}
 use Rattle.rules.specs.declared.call.Call.TheVariants.{EnterGate}
@@ -49,7 +49,7 @@ sum_bounded f most a n within =
     omega (arith, sum-map f (range_with_len a n), by_number)
 
 -- a day weighs at least 1
-pub weight_positive : (s : Setting) (h : History) (d : ℕ) → 0 < weight s h d
+pub weight_positive : (s : Setting) (h : History) (d : ℕ) → 0 < weight_on s h d
 weight_positive s h d =
     let n = unwrap_or (load s h d) 0 in
     cond_both (eqb n 0) 1 n (λ w. 0 < w) (λ _. omega arith)
@@ -58,15 +58,15 @@ weight_positive s h d =
     ⊎_elim (λ (pos : 0 < n). pos) (λ (none : n ≤ 0). absurd (other (omega arith))) (cases_lt 0 n))
 
 -- a reading has a weight for each day that it covers
-pub length_weights : (s : Setting) (h : History) (r : Reading) → length (weights s h r) ≡ r.end - r.start
-length_weights s h r = length-map-range_with_len (weight s h) r.start (r.end - r.start)
+pub length_weights : (s : Setting) (h : History) (r : Reading) → length (covered_weights s h r) ≡ r.end - r.start
+length_weights s h r = length-map-range_with_len (weight_on s h) r.start (r.end - r.start)
 
 -- a reading that has a day has weight
-pub weights_positive : (s : Setting) (h : History) (r : Reading) → r.start < r.end → 0 < sum (weights s h r)
+pub weights_positive : (s : Setting) (h : History) (r : Reading) → r.start < r.end → 0 < sum (covered_weights s h r)
 weights_positive s h r ahead =
-    let first = get_or-map-range_with_len (weight s h) r.start (r.end - r.start) 0 r.start 0 (omega arith)
+    let first = get_or-map-range_with_len (weight_on s h) r.start (r.end - r.start) 0 r.start 0 (omega arith)
     (omega arith) in
-    let in_sum = get_or-le-sum_by (λ x. x) (weights s h r) 0 0 (omega (arith, length_weights s h r)) in
+    let in_sum = get_or-le-sum_by (λ x. x) (covered_weights s h r) 0 0 (omega (arith, length_weights s h r)) in
     omega (arith, first, in_sum, weight_positive s h r.start)
 
 -- a held reading keeps within the limits of the book
@@ -83,7 +83,7 @@ pub share_bounded : (s : Setting) (h : History)
     → IsLawful s h → (p d : ℕ) (r : Reading) → covering_reading h p d ≡ Some r → share_on s h d r ≤ largest_energy
 share_bounded s h lawful p d r cover =
     let limits = held_within s h lawful r (covering_held s h lawful p d r cover).0 in
-    omega (arith, limits.4, share_most r.energy (weights s h r) (d - r.start) (weights_positive s h r limits.2))
+    omega (arith, limits.4, share_most r.energy (covered_weights s h r) (d - r.start) (weights_positive s h r limits.2))
 
 -- so does what is supplied to a point, or nothing
 pub supplied_bounded : (s : Setting) (h : History)
@@ -196,11 +196,11 @@ load_bounded s h lawful d n loaded = go (gate_of h d) (gates_within s h d lawful
 -- a held reading can be shared over its days
 pub reading_shareable : (s : Setting) (h : History)
     → IsLawful s h → s.days ≤ last_day → (r : Reading)
-    → Holds h r → can_share largest_gate r.energy (weights s h r) ≡ true
+    → Holds h r → can_share largest_gate r.energy (covered_weights s h r) ≡ true
 reading_shareable s h lawful few r a =
     let limits = held_within s h lawful r a in
-    let rows : length (weights s h r) ≤ last_day = omega (arith, length_weights s h r, limits.3) in
-    let product = mul-le r.energy (length (weights s h r)) largest_energy last_day limits.4 rows in
-    and_from (leb (r.energy * length (weights s h r) * largest_gate) largest_product) (ltb 0 (sum (weights s h r)))
-    (le-leb (r.energy * length (weights s h r) * largest_gate) largest_product (omega (arith, product)))
-    (lt-ltb 0 (sum (weights s h r)) (weights_positive s h r limits.2))
+    let rows : length (covered_weights s h r) ≤ last_day = omega (arith, length_weights s h r, limits.3) in
+    let product = mul-le r.energy (length (covered_weights s h r)) largest_energy last_day limits.4 rows in
+    and_from (leb (r.energy * length (covered_weights s h r) * largest_gate) largest_product) (ltb 0 (sum (covered_weights s h r)))
+    (le-leb (r.energy * length (covered_weights s h r) * largest_gate) largest_product (omega (arith, product)))
+    (lt-ltb 0 (sum (covered_weights s h r)) (weights_positive s h r limits.2))

@@ -7,7 +7,7 @@ use Rattle.std.proofs.lemmas.List.{get_or_past}
 use Rattle.std.proofs.lemmas.Bool.{cases_lt, cond-false, cond_both}
 use Rattle.allocation.specs.ShareLaws.{share_of_nothing}
 use Rattle.allocation.specs.Sharing.{shares}
-use Rattle.rules.specs.Figures.{is_active, belongs_to, estimate, counted_estimate, is_estimated, estimates, estimates_sum, needs_scaling, figure, figures_sum, generated_figures, load, missing_count, points_of, retailer_sum, share_on, supplied_figure, supplied_sum, weight, weights, has_begun, estimate_under}
+use Rattle.rules.specs.Figures.{is_active, belongs_to, estimate, counted_estimate, is_estimated, estimates, estimates_sum, needs_scaling, figure, figures_sum, generated_figures, load, missing_count, points_of, retailer_sum, share_on, supplied_figure, supplied_sum, has_begun, estimate_under, weight_on, covered_weights}
 use Rattle.rules.specs.History.{History, Setting, covering_reading, enrolment_of, gate_of, interval_energy, covers}
 use Rattle.rules.specs.declared.entry.Reading.{Reading}
 use Rattle.rules.specs.FigureLaws.{SameDay, SameLatest, SameSheet}
@@ -91,9 +91,9 @@ pub share_same : (s : Setting) (h new : History) (d : ℕ) (r : Reading)
     → ((k : ℕ) → r.start ≤ k → k < r.end → load s new k ≡ load s h k) → share_on s new d r ≡ share_on s h d r
 share_same s h new d r same = λ i. get_or (shares r.energy (rows i)) (d - r.start) 0
   where
-    rows : weights s new r ≡ weights s h r
+    rows : covered_weights s new r ≡ covered_weights s h r
     rows =
-        map_over (weight s new) (weight s h) r.start (r.end - r.start)
+        map_over (weight_on s new) (weight_on s h) r.start (r.end - r.start)
         (λ k low high. ap (λ o. loads.weight (unwrap_or o 0)) (same k low (omega arith)))
 
 -- the supplied figure depends on the covering reading and its share

@@ -6,7 +6,7 @@ use Rattle.estimators.specs.Limits.{greatest_figure, last_day, last_point}
 use Rattle.allocation.specs.Loads.{largest_gate}
 use Rattle.allocation.specs.Sharing.{can_share, shares}
 use Rattle.rules.specs.Calls.{IsLawful}
-use Rattle.rules.specs.Figures.{estimate, estimates, estimates_sum, excess, figure, figures_sum, generated_figures, generated_sum, is_active, is_estimated, load, missing_count, needs_scaling, remainder, retailer_sum, share_on, supplied_figure, supplied_sum, weights}
+use Rattle.rules.specs.Figures.{estimate, estimates, estimates_sum, excess, figure, figures_sum, generated_figures, generated_sum, is_active, is_estimated, load, missing_count, needs_scaling, remainder, retailer_sum, share_on, supplied_figure, supplied_sum, covered_weights}
 use Rattle.rules.specs.History.{History, Setting, covering_reading, covers, degree_day_count, enrolment_of, gate_of, interval_energy}
 use Rattle.rules.specs.Readings.{Holds, accepted_readings, are_joined, held_readings}
 use Rattle.rules.specs.declared.entry.Enrolment.{Enrolment}
@@ -191,7 +191,7 @@ pub record FiguresKeepLimits : Type 0 where
       (f : ℕ → ℕ) (most a n : ℕ)
       → ((k : ℕ) → a ≤ k → k < a + n → f k ≤ most) → sum (map f (range_with_len a n)) ≤ n * most
   -- a reading that has a day has weight
-  pub weights_positive : (s : Setting) (h : History) (r : Reading) → r.start < r.end → 0 < sum (weights s h r)
+  pub weights_positive : (s : Setting) (h : History) (r : Reading) → r.start < r.end → 0 < sum (covered_weights s h r)
   -- a held reading names a point of the book, ends after its start and in the book, and keeps within the largest energy
   pub held_within :
       (s : Setting) (h : History) → IsLawful s h → (r : Reading) → Holds h r
@@ -216,4 +216,4 @@ pub record FiguresKeepLimits : Type 0 where
   -- in a book of no more days than there can be, each held reading can be shared over its days
   pub reading_shareable :
       (s : Setting) (h : History) → IsLawful s h → s.days ≤ last_day
-      → (r : Reading) → Holds h r → can_share largest_gate r.energy (weights s h r) ≡ true
+      → (r : Reading) → Holds h r → can_share largest_gate r.energy (covered_weights s h r) ≡ true

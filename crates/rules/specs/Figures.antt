@@ -26,18 +26,18 @@ abbrev pub load : Setting → History → (day : ℕ) → Option ℕ
 load s h d = option_map (load_from_gate s h d) (gate_of h d)
 
 -- the weight of a day
-abbrev pub weight : Setting → History → (day : ℕ) → ℕ
-weight s h d = loads.weight (unwrap_or (load s h d) 0)
+abbrev pub weight_on : Setting → History → (day : ℕ) → ℕ
+weight_on s h d = loads.weight (unwrap_or (load s h d) 0)
 
 -- Supplied figures.
 
 -- the weights of the days that a reading covers, in their order
-abbrev pub weights : Setting → History → Reading → List ℕ
-weights s h r = map (weight s h) (covered_days r)
+abbrev pub covered_weights : Setting → History → Reading → List ℕ
+covered_weights s h r = map (weight_on s h) (covered_days r)
 
 -- a reading's share of a day that it covers
 abbrev pub share_on : Setting → History → (day : ℕ) → Reading → ℕ
-share_on s h d r = slice_index (shares r.energy (weights s h r)) (d - r.start)
+share_on s h d r = slice_index (shares r.energy (covered_weights s h r)) (d - r.start)
 
 -- the supplied figure of a point and day: the share of the last reading that covers it
 abbrev pub supplied_figure : Setting → History → (point day : ℕ) → Option ℕ

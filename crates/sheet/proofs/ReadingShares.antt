@@ -10,7 +10,6 @@ use Rattle.allocation.specs.ShareLaws.{length_shares}
 use Rattle.allocation.specs.SharingLimits.{largest_day_weight, largest_product}
 use Rattle.allocation.specs.Sharing.{can_share, shares}
 use Rattle.allocation.specs.declared.reading_day.ReadingDay.{ReadingDay}
-use Rattle.rules.specs.Figures.{weight, weights}
 use Rattle.rules.specs.History.{History, Setting, covers}
 use Rattle.rules.specs.declared.entry.Reading.{Reading}
 use Rattle.ledger.specs.declared.ledger.Ledger.{Ledger}
@@ -22,6 +21,7 @@ use Rattle.sheet.proofs.RowsByPlaces.{handed_shares, handed_weights, place_after
 use Rattle.allocation.specs.ReadingDay.{with_share}
 use Rattle.allocation.specs.Row.{rows_with_shares}
 use Rattle.rules.proofs.Readings.{covers_facts}
+use Rattle.rules.specs.Figures.{weight_on, covered_weights}
 
 -- a day other than the next is among the days so far or not
 same_test : (point p start d to : ℕ) → (point ≡ p → d ≡ to → ⊥) → (eqb point p && (leb start d && ltb d to)) ≡ (eqb point p && (leb start d && ltb d (to + 1)))
@@ -154,9 +154,9 @@ days_shareable b many loads_many r lies =
 
 -- the days of a reading weigh what the rules say
 module _ {s : Setting} {h : History} {l : Ledger} {b : Sheet} (knows : KnowsHistory s h l b) (many : length b.reading_days ≡ 400) (loads_many : length b.loads ≡ 400) where
-  days_weigh : (a n : ℕ) → a + n ≤ b.days → weights_of_days (take n (drop a b.reading_days)) ≡ map (weight s h) (range_with_len a n)
+  days_weigh : (a n : ℕ) → a + n ≤ b.days → weights_of_days (take n (drop a b.reading_days)) ≡ map (weight_on s h) (range_with_len a n)
   days_weigh a n inside =
-      ext_get_or 0 (weights_of_days (take n (drop a b.reading_days))) (map (weight s h) (range_with_len a n)) (long ∙ sym (length-map-range_with_len (weight s h) a n)) each
+      ext_get_or 0 (weights_of_days (take n (drop a b.reading_days))) (map (weight_on s h) (range_with_len a n)) (long ∙ sym (length-map-range_with_len (weight_on s h) a n)) each
     where
       few : a + n ≤ 400
       few = omega (arith, inside, b.few_days)
@@ -164,7 +164,7 @@ module _ {s : Setting} {h : History} {l : Ledger} {b : Sheet} (knows : KnowsHist
       long : length (weights_of_days (take n (drop a b.reading_days))) ≡ n
       long = length-map (take n (drop a b.reading_days)) (λ (day : ReadingDay). day.weight) ∙ length-take-le n (drop a b.reading_days) (omega (arith, few, many, length-drop a b.reading_days))
 
-      each : (k : ℕ) → k < length (weights_of_days (take n (drop a b.reading_days))) → get_or (weights_of_days (take n (drop a b.reading_days))) k 0 ≡ get_or (map (weight s h) (range_with_len a n)) k 0
+      each : (k : ℕ) → k < length (weights_of_days (take n (drop a b.reading_days))) → get_or (weights_of_days (take n (drop a b.reading_days))) k 0 ≡ get_or (map (weight_on s h) (range_with_len a n)) k 0
       each k less =
           let low : k < n = omega (arith, less, long) in
           ap (λ ws. get_or ws k 0) (sym (take-map (λ (day : ReadingDay). day.weight) n (drop a b.reading_days)) ∙ ap (take n) (sym (drop-map (λ (day : ReadingDay). day.weight) a b.reading_days) ∙ ap (drop a) b.weighed_by_loads))
@@ -172,7 +172,7 @@ module _ {s : Setting} {h : History} {l : Ledger} {b : Sheet} (knows : KnowsHist
           ∙ get_or-drop a (map weight_of_load b.loads) k 0
           ∙ get_or-map weight_of_load b.loads (a + k) None 0 (omega (arith, low, few, loads_many))
           ∙ ap weight_of_load (knows.loads (a + k) (omega (arith, low, inside, knows.days)))
-          ∙ sym (get_or-map-range_with_len (weight s h) a n k (a + k) 0 low refl)
+          ∙ sym (get_or-map-range_with_len (weight_on s h) a n k (a + k) 0 low refl)
 
   -- days of the row that have taken a reading's shares show them
   pub spread_shown : (r : Reading) (taken : List ReadingDay) (new : Sheet) → LiesInSheet b r
@@ -197,10 +197,10 @@ module _ {s : Setting} {h : History} {l : Ledger} {b : Sheet} (knows : KnowsHist
       days : List ReadingDay
       days = take (r.end - r.start) (drop r.start b.reading_days)
 
-      weigh : weights_of_days days ≡ weights s h r
+      weigh : weights_of_days days ≡ covered_weights s h r
       weigh = days_weigh r.start (r.end - r.start) (omega (arith, lies.some, lies.last))
 
-      taken_shares : shares_of_days taken ≡ shares r.energy (weights s h r)
+      taken_shares : shares_of_days taken ≡ shares r.energy (covered_weights s h r)
       taken_shares =
           let all_taken : taken ≡ rows_with_shares with_share days (shares r.energy (weights_of_days days)) = took ∙ cond-true _ _ _ can in
           ap shares_of_days all_taken

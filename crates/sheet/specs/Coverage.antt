@@ -11,7 +11,8 @@ use Rattle.rules.specs.Figures.{is_active}
 -- a history covers of each point up to n the days from its start day up to the end at its place, and no others
 abbrev pub CoversTo : History → ℕ → List ℕ → Type 0
 CoversTo h n ends =
-    (p d : ℕ) → 1 ≤ p → p ≤ n → is_some (covering_reading h p d) ≡ (is_active h p d && nat_lt d (slice_index ends (p - 1)))
+    (p d : ℕ) → 1 ≤ p → p ≤ n
+    → is_some (covering_reading h p d) ≡ (is_active h p d && nat_lt d (slice_index ends (p - 1)))
 
 -- how those days move as a history is lengthened
 pub record CoverageReaches : Type 0 where

@@ -38,7 +38,8 @@ ShowsDay s h sheet d = (p : ℕ) → 1 ≤ p → p ≤ s.points → figure_at sh
 -- of each point that no reading covers its estimate as it is
 abbrev pub ShowsEstimates : Setting → History → Sheet → ℕ → Type 0
 ShowsEstimates s h sheet d =
-    (p : ℕ) → 1 ≤ p → p ≤ s.points → is_some (covering_reading h p d) ≡ false → figure_at sheet p d ≡ counted_estimate s h p d
+    (p : ℕ) → 1 ≤ p → p ≤ s.points → is_some (covering_reading h p d) ≡ false
+    → figure_at sheet p d ≡ counted_estimate s h p d
 
 -- of each point that no reading covers 0
 abbrev pub ShowsNothing : Setting → History → Sheet → ℕ → Type 0
@@ -146,8 +147,8 @@ TakesEntry entry ledger meaning old new =
     → IsSheetOf s rest h old → IsSheetOf s rest (entry ∷ h) new
 
 -- the same of a degree-day count, whichever it is
-abbrev pub TakesCount : ℕ → Ledger → Meaning → Sheet → Sheet → Type 0
-TakesCount day ledger meaning old new =
+abbrev pub TakesDayCount : ℕ → Ledger → Meaning → Sheet → Sheet → Type 0
+TakesDayCount day ledger meaning old new =
     (s : Setting) (rest : List ℕ) (h : History) (count : ℕ)
     → IsLawful s (DegreeDaysEntered day count ∷ h) → IsLedgerOf s (DegreeDaysEntered day count ∷ h) ledger
     → MeansEstimates s (DegreeDaysEntered day count ∷ h) meaning

@@ -9,7 +9,7 @@ ghost use Rattle.rules.specs.declared.entry.Reading.{Reading};
 ghost use Rattle.ledger.specs.declared.ledger.Ledger.{Ledger};
 ghost use Rattle.sheet.specs.DayWeights.{shares_of_days, weight_of_load};
 ghost use Rattle.sheet.specs.Sheet.{ChangesOnlyDays, IsDayOfSheet, IsPointOfSheet, LiesInSheet, SetsCover, SetsLoad, figure_at};
-ghost use Rattle.sheet.specs.SheetOfHistory.{ForKnown, ShowsShares, ShowsSharesOver, TakesCount, TakesEntry, TakesLoad};
+ghost use Rattle.sheet.specs.SheetOfHistory.{ForKnown, ShowsShares, ShowsSharesOver, TakesEntry, TakesLoad, TakesDayCount};
 ghost use Rattle.sheet.specs.declared.sheet.DayNote.TheVariants.{NothingKnown};
 ghost use Rattle.ledger.specs.Ledger.{IsLedgerOf};
 
@@ -82,7 +82,7 @@ impl Sheet {
     /// Takes in a degree-day count that the estimator has taken: its day is settled. Outside the sheet
     /// nothing changes.
     pub fn take_count<E: Estimator>(&mut self, sources: &Sources<'_, E>, day: u32)
-        ensures { TakesCount day sources.now.ledger.now
+        ensures { TakesDayCount day sources.now.ledger.now
             (E.Estimator.meaning sources.now.estimator.now) self.old self.new }
     {
         if day >= self.days {

@@ -135,7 +135,8 @@ impl Sheet {
             estimates_of_points points.new ≡ law.estimates s h day) }
         ensures supplied { ForKnown sources.now.ledger.now self.now (λ s h.
             result
-            ≡ min (sheets.sum_where (λ p. is_some (covering_reading h p day)) self.now day self.now.points) (2 ^ 64 - 1)) }
+            ≡ min (sheets.sum_where (λ p. is_some (covering_reading h p day)) self.now day self.now.points)
+            (2 ^ 64 - 1)) }
     {
         let mut supplied = 0u64;
         for (i, row) in points.iter_mut().enumerate() {

@@ -2,8 +2,8 @@
 use Rattle.std.proofs.Common.{◌≡◌, ℕ, zero, suc, ◌+◌, ◌-◌, ◌*◌, ◌<◌, ◌≤◌, ◌^◌, min, sym, refl, ap, ◌∙◌, subst, arith}
 use Rattle.std.proofs.lemmas.List.FromFn.{sum_by-map-range_with_len_more}
 use Rattle.rules.proofs.Bounds.{sum_bounded}
-use Rattle.statements.specs.Limits.{largest_sum}
 use Rattle.statements.specs.Spans.{sum_over}
+use Rattle.statements.specs.Limits.{largest_statement_sum}
 
 pub of_none : (f : ℕ → ℕ) (d : ℕ) → sum_over f d 0 ≡ 0
 unfolding sum_over
@@ -37,11 +37,11 @@ at_most f d n most within =
     subst (λ (x : ℕ). f x ≤ most) there (within (k - d) (omega arith)))
 
 -- a running sum that is counted to the largest stays so
-pub counted_more : (f : ℕ → ℕ) (d n total x : ℕ) → total ≡ min (sum_over f d n) largest_sum → x ≡ f (d + n) → min (min (total + x) (2 ^ 64 - 1)) largest_sum ≡ min (sum_over f d (n + 1)) largest_sum
+pub counted_more : (f : ℕ → ℕ) (d n total x : ℕ) → total ≡ min (sum_over f d n) largest_statement_sum → x ≡ f (d + n) → min (min (total + x) (2 ^ 64 - 1)) largest_statement_sum ≡ min (sum_over f d (n + 1)) largest_statement_sum
 counted_more f d n total x before is = omega (arith, of_one_more f d n)
 
 -- a sum within the limit is counted whole
-pub whole : (f : ℕ → ℕ) (d e n m : ℕ) → d ≡ e → n ≡ m → sum_over f e m ≤ largest_sum → min (sum_over f d n) largest_sum ≡ sum_over f e m
+pub whole : (f : ℕ → ℕ) (d e n m : ℕ) → d ≡ e → n ≡ m → sum_over f e m ≤ largest_statement_sum → min (sum_over f d n) largest_statement_sum ≡ sum_over f e m
 whole f d e n m same_first same_count within =
     let same : sum_over f d n ≡ sum_over f e m = λ i. sum_over f (same_first i) (same_count i) in
     omega (arith, same)

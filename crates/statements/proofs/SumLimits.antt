@@ -8,10 +8,10 @@ use Rattle.book.specs.Book.{IsBookOf}
 use Rattle.book.specs.Case.{Case}
 use Rattle.estimators.specs.Meaning.{Meanings}
 use Rattle.book.specs.declared.book.Book.{Book}
-use Rattle.statements.specs.Limits.{largest_sum}
 use Rattle.statements.specs.Spans.{sum_over}
 use Rattle.statements.specs.Sums.{remainder_on}
 use Rattle.statements.proofs.SpanSums.{at_most}
+use Rattle.statements.specs.Limits.{largest_statement_sum}
 
 module _ {c : Case} {b : Book} {m : Meanings} (f : IsBookOf c b m) where
   few_points : c.setting.points ≤ 256
@@ -46,13 +46,13 @@ module _ {c : Case} {b : Book} {m : Meanings} (f : IsBookOf c b m) where
       go (Some n) is = omega (arith, load_bounded c.setting c.history f.lawful d n is)
 
   -- a sum over days of the book of numbers that keep this limit
-  over_limited : (g : ℕ → ℕ) (d n : ℕ) → ((k : ℕ) → g k ≤ 2560000000) → d + n ≤ c.setting.days → sum_over g d n ≤ largest_sum
+  over_limited : (g : ℕ → ℕ) (d n : ℕ) → ((k : ℕ) → g k ≤ 2560000000) → d + n ≤ c.setting.days → sum_over g d n ≤ largest_statement_sum
   over_limited g d n each within =
       let most = at_most g d n 2560000000 (λ k below. each (d + k)) in
       omega (arith, most, few_days)
 
-  pub retailer_counts : (k d n : ℕ) → d + n ≤ c.setting.days → sum_over (retailer_sum c.setting c.history k) d n ≤ largest_sum
+  pub retailer_counts : (k d n : ℕ) → d + n ≤ c.setting.days → sum_over (retailer_sum c.setting c.history k) d n ≤ largest_statement_sum
   retailer_counts k d n within = over_limited (retailer_sum c.setting c.history k) d n (retailer_limited k) within
 
-  pub remainder_counts : (d n : ℕ) → d + n ≤ c.setting.days → sum_over (remainder_on c.setting c.history) d n ≤ largest_sum
+  pub remainder_counts : (d n : ℕ) → d + n ≤ c.setting.days → sum_over (remainder_on c.setting c.history) d n ≤ largest_statement_sum
   remainder_counts d n within = over_limited (remainder_on c.setting c.history) d n remainder_limited within

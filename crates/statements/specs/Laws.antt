@@ -20,28 +20,28 @@ last_of first (next ∷ later) = last_of next later
 
 -- what the adjustments of stages that come one after another add up to, at a place
 abbrev pub adjustments_sum : Sums → List Sums → ℕ → ℤ
-adjustments_sum first [] day_of_date = pos 0
-adjustments_sum first (next ∷ later) day_of_date = adjustment_at first next day_of_date +ℤ adjustments_sum next later day_of_date
+adjustments_sum first [] place = pos 0
+adjustments_sum first (next ∷ later) place = adjustment_at first next place +ℤ adjustments_sum next later place
 
 pub record AdjustmentsLeadOn : Type 0 where
   -- a later stage's list: the adjustments, the sums after them, and the rest as it was
   pub first_places :
-      (old new : Sums) (before : List ℤ) (day_of_date : ℕ) → day_of_date < sum_count
-      → slice_index_or (later_list old new before) day_of_date (pos 0) ≡ adjustment_at old new day_of_date
+      (old new : Sums) (before : List ℤ) (place : ℕ) → place < sum_count
+      → slice_index_or (later_list old new before) place (pos 0) ≡ adjustment_at old new place
   pub next_places :
-      (old new : Sums) (before : List ℤ) (day_of_date : ℕ) → day_of_date < sum_count
-      → slice_index_or (later_list old new before) (sum_count + day_of_date) (pos 0) ≡ shown_at new day_of_date
+      (old new : Sums) (before : List ℤ) (place : ℕ) → place < sum_count
+      → slice_index_or (later_list old new before) (sum_count + place) (pos 0) ≡ shown_at new place
   pub rest :
       (old new : Sums) (before : List ℤ) → drop later_places (later_list old new before) ≡ drop later_places before
   -- an adjustment added to the old sum gives the new one
   pub leads_on :
-      (old new : Sums) (before : List ℤ) (day_of_date : ℕ) → day_of_date < sum_count
-      → shown_at old day_of_date +ℤ slice_index_or (later_list old new before) day_of_date (pos 0)
-      ≡ slice_index_or (later_list old new before) (sum_count + day_of_date) (pos 0)
+      (old new : Sums) (before : List ℤ) (place : ℕ) → place < sum_count
+      → shown_at old place +ℤ slice_index_or (later_list old new before) place (pos 0)
+      ≡ slice_index_or (later_list old new before) (sum_count + place) (pos 0)
   -- the adjustments of all stages, added to the first sum, give the last
   pub add_up :
-      (first : Sums) (later : List Sums) (day_of_date : ℕ)
-      → shown_at first day_of_date +ℤ adjustments_sum first later day_of_date ≡ shown_at (last_of first later) day_of_date
+      (first : Sums) (later : List Sums) (place : ℕ)
+      → shown_at first place +ℤ adjustments_sum first later place ≡ shown_at (last_of first later) place
 
 pub record SpansAreJudgedAndSummed : Type 0 where
   -- a span that nothing refuses: its dates exist, and its days lie in the book, one or more

@@ -2,8 +2,8 @@
 use Rattle.std.specs.Prelude.{ℕ}
 
 -- the most that a sum is counted to: 2 to the power of 63, less 1
-abbrev pub largest_sum : ℕ
-largest_sum = 9223372036854775807
+abbrev pub largest_statement_sum : ℕ
+largest_statement_sum = 9223372036854775807
 
 -- the sums of a statement: each retailer's, and the host remainder's
 abbrev pub sum_count : ℕ

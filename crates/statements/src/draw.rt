@@ -2,8 +2,8 @@ ghost use Rattle.std.specs.Prelude.{◌≡◌, ℕ, ◌+◌, ◌<◌, ◌≤◌,
 ghost use Rattle.estimators.specs.Meaning.{meanings_of};
 ghost use Rattle.terms.specs.declared.refusal.Refusal.{Refusal};
 ghost use Rattle.statements.specs.Draws.{GivesSums, JudgesDraw, JudgesLoads, SumsAll, SumsRemainder, SumsRetailer, TellsRemainder};
-ghost use Rattle.statements.specs.Limits.{largest_sum};
 ghost use Rattle.statements.specs.Spans.{sum_over};
+ghost use Rattle.statements.specs.Limits.{largest_statement_sum};
 
 use super::statement::Span;
 use super::sums::{LARGEST_SUM, RETAILERS, Sums};
@@ -45,11 +45,11 @@ fn judge_draw<E: Weather>(
 // What some days come to, as each is asked by its place in the book.
 fn sum_over<F: Fn(u32) -> Result<u64, Refusal>>(days: Days, ask: F) -> Result<u64, Refusal>
     requires { F.IsAlwaysCallable ask }
-    ensures fits { IfOk result (λ sum. sum ≤ largest_sum) }
+    ensures fits { IfOk result (λ sum. sum ≤ largest_statement_sum) }
     ensures law { (f : ℕ → ℕ)
         → ((k : ℕ) (r : Result ℕ Refusal) → k < days.count → F.post ask (days.first + k) r
         → r ≡ Result.Ok (f (days.first + k)))
-        → result ≡ Result.Ok (min (sum_over f days.first days.count) largest_sum) }
+        → result ≡ Result.Ok (min (sum_over f days.first days.count) largest_statement_sum) }
 {
     let mut total = 0u64;
     for place in 0..days.count {
@@ -62,7 +62,7 @@ fn sum_over<F: Fn(u32) -> Result<u64, Refusal>>(days: Days, ask: F) -> Result<u6
 
 // What the figures of a retailer's points come to over some days.
 fn retailer_over(book: &Book, retailer: u32, days: Days) -> Result<u64, Refusal>
-    ensures fits { IfOk result (λ sum. sum ≤ largest_sum) }
+    ensures fits { IfOk result (λ sum. sum ≤ largest_statement_sum) }
     ensures law { SumsRetailer retailer days result book.now }
 {
     sum_over(days, |day| book.day_sum(retailer, day))
@@ -79,7 +79,7 @@ fn remainder_on<E: Weather>(book: &Book, estimator: &E, day: u32) -> Result<u64,
 // What is left to the host retailer over some days: the remainders of the days added up. An excess lowers none
 // of them.
 fn remainder_over<E: Weather>(book: &Book, estimator: &E, days: Days) -> Result<u64, Refusal>
-    ensures fits { IfOk result (λ sum. sum ≤ largest_sum) }
+    ensures fits { IfOk result (λ sum. sum ≤ largest_statement_sum) }
     ensures law { SumsRemainder days result book.now (meanings_of (E.meaning estimator.now) (E.under estimator.now)) }
 {
     sum_over(days, |day| remainder_on(book, estimator, day))

@@ -1,5 +1,5 @@
 ghost use Rattle.std.specs.Prelude.{◌≡◌, ℕ, ◌+◌, ◌<◌, ◌≤◌, ℤ, ◌++◌, length, take, drop, slice_index};
-ghost use Rattle.statements.specs.Limits.{largest_sum, later_places, sum_count};
+ghost use Rattle.statements.specs.Limits.{later_places, sum_count, largest_statement_sum};
 
 /// The retailers of an area, numbered from 1.
 pub const RETAILERS: usize = terms::RETAILERS as usize;
@@ -20,8 +20,8 @@ pub struct Sums {
     pub retailers: [u64; RETAILERS],
     /// What is left to the host retailer.
     pub remainder: u64,
-    ghost retailers_fit: { (k : ℕ) → slice_index retailers k ≤ largest_sum },
-    ghost remainder_fits: { remainder ≤ largest_sum },
+    ghost retailers_fit: { (k : ℕ) → slice_index retailers k ≤ largest_statement_sum },
+    ghost remainder_fits: { remainder ≤ largest_statement_sum },
 }
 
 impl Sums {
@@ -31,7 +31,7 @@ impl Sums {
     // The sum at a place: the retailers' in their order, and then the host remainder's.
     fn at(&self, place: usize) -> u64
         ensures value { result ≡ sum_at self.now place }
-        ensures fits { result ≤ largest_sum }
+        ensures fits { result ≤ largest_statement_sum }
     {
         if place < RETAILERS {
             self.retailers[place]

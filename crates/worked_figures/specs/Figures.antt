@@ -18,7 +18,8 @@ pub record WorkedFigures : Type 0 where
   -- estimates of 20, 20 and 10 MJ scaled to the 31 MJ that a load of 101 leaves beside 70 supplied
   pub scaled : shares (net_load 101 70 0) (20 ∷ 20 ∷ 10 ∷ []) ≡ 12 ∷ 12 ∷ 7 ∷ []
   -- eight times 10.0 °C, sixteen winds of 10 knots, 5.0 hours of sunshine, day 200 of the year
-  pub degree_day_count : degree_days (record { temperatures = replicate 8 (pos 100); winds = replicate 16 10; sunshine = 50 }) 200 ≡ 1094
+  pub degree_day_count :
+      degree_days (record { temperatures = replicate 8 (pos 100); winds = replicate 16 10; sunshine = 50 }) 200 ≡ 1094
   -- a base load of 12,500 kJ a day and 3,000 kJ a degree day under that count
   pub by_weather : weather_figure (record { base_load = 12500; sensitivity = 3000 }) 1094 ≡ 45
   -- 9,000 litres over 90 days at 400 kJ a litre, last read in September, on a day in January

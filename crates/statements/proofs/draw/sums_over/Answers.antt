@@ -4,9 +4,9 @@ use Rattle.std.proofs.lemmas.Bool.{cases_eq}
 use Rattle.std.proofs.lemmas.List.{get_or-set_other, get_or-set_same}
 use Rattle.std.proofs.lemmas.List.{length-set}
 use Rattle.terms.specs.declared.refusal.Refusal.{Refusal}
-use Rattle.statements.specs.Limits.{largest_sum}
 use Rattle.statements.specs.Sums.{remainder_over, retailer_over}
 use Rattle.statements.proofs.draw.sums_over.Goals as goal
+use Rattle.statements.specs.Limits.{largest_statement_sum}
 
 -- a list of zeros holds 0 everywhere
 nothing : (n k : ℕ) → ◌≡◌ {A = ℕ} (get_or (replicate n 0) k 0) 0
@@ -34,8 +34,8 @@ loop-place-preserved g c =
     record {
       long = length-set c.loop-place.retailers c.loop-place.place x ∙ c.loop-place.invariant.long;
       fits = λ k.
-          ⊎_elim (λ same. subst (λ (n : ℕ). get_or (set xs i x) n 0 ≤ largest_sum) same (subst (λ (n : ℕ). n ≤ largest_sum) (sym (get_or-set_same xs i x 0 inside)) c.in_ok-retailers.ensures.fits))
-          (λ other. let apart : k ≢ c.loop-place.place = λ same. other (sym same) in subst (λ (n : ℕ). n ≤ largest_sum) (sym (get_or-set_other xs i k x 0 apart)) (c.loop-place.invariant.fits k)) (cases_eq i k);
+          ⊎_elim (λ same. subst (λ (n : ℕ). get_or (set xs i x) n 0 ≤ largest_statement_sum) same (subst (λ (n : ℕ). n ≤ largest_statement_sum) (sym (get_or-set_same xs i x 0 inside)) c.in_ok-retailers.ensures.fits))
+          (λ other. let apart : k ≢ c.loop-place.place = λ same. other (sym same) in subst (λ (n : ℕ). n ≤ largest_statement_sum) (sym (get_or-set_other xs i k x 0 apart)) (c.loop-place.invariant.fits k)) (cases_eq i k);
       law = λ case f span its.
           let given : ◌≡◌ {A = Result ℕ Refusal} (Ok x) (Ok (retailer_over case.setting case.history (i + 1) span)) = c.in_ok-retailers.ensures.law.law _ case f span its in
           let is : x ≡ retailer_over case.setting case.history (i + 1) span = cc in

@@ -1,8 +1,10 @@
-//! Tests of the estimates: estimators at the edges of their limits, alone and in layers, and degree days.
+//! Tests of the calendar, of estimators and of degree days. The crates are proved in their own place, and only run here.
 #![tactic(auto)]
 
 #[cfg(test)]
 mod by_weather;
+#[cfg(test)]
+mod calendar_days;
 #[cfg(test)]
 mod checks;
 #[cfg(test)]
