@@ -1,4 +1,5 @@
-//! Tests of the calendar, of estimators and of degree days. The crates are proved in their own place, and only run here.
+//! Tests of the calendar, of estimators and of degree days. The crates are proved in their own place, and only
+//! run here.
 #![tactic(auto)]
 
 #[cfg(test)]

@@ -5,12 +5,12 @@ use std::alloc::{AllocError, Global};
 use terms::ReadingType;
 
 // The two retailers.
-pub const NORTHERN: u32 = 4;
+pub(crate) const NORTHERN: u32 = 4;
 
-pub const SOUTHERN: u32 = 7;
+pub(crate) const SOUTHERN: u32 = 7;
 
 // How many questions there are for each day.
-pub const QUESTIONS: usize = 3;
+pub(crate) const QUESTIONS: usize = 3;
 
 // The gate days that come day by day; all others come late.
 const ON_TIME: usize = 14;

@@ -8,13 +8,13 @@ use std::alloc::Global;
 use terms::Refusal;
 
 // July 2024. From the first to the last, dates are counted by their digits, so both lie in one month.
-pub const FIRST: u32 = 20240701;
+pub(crate) const FIRST: u32 = 20240701;
 
-pub const LAST: u32 = 20240731;
+pub(crate) const LAST: u32 = 20240731;
 
-pub const DAYS: usize = 31;
+pub(crate) const DAYS: usize = 31;
 
-pub const POINTS: usize = 3;
+pub(crate) const POINTS: usize = 3;
 
 // 2.5 percent, in ten-thousandths.
 const UNACCOUNTED: u64 = 250;

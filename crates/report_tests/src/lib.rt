@@ -1,5 +1,5 @@
-//! Tests of the way from the bytes of an input to the bytes of its report, which `report` proves: the shape of each line,
-//! each refusal with its column, and readers and writers that fail, wait or give little.
+//! Tests of the way from the bytes of an input to the bytes of its report, which `report` proves: the shape of each
+//! line, each refusal with its column, and readers and writers that fail, wait or give little.
 #![tactic(auto)]
 
 #[cfg(test)]

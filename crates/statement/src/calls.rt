@@ -5,11 +5,11 @@ use std::alloc::{AllocError, Global};
 use terms::ReadingType;
 
 // The three retailers.
-pub const NORTHERN: u32 = 4;
+pub(crate) const NORTHERN: u32 = 4;
 
-pub const SOUTHERN: u32 = 7;
+pub(crate) const SOUTHERN: u32 = 7;
 
-pub const SMALL: u32 = 11;
+pub(crate) const SMALL: u32 = 11;
 
 // The points' retailers, by the numbers of the points.
 const RETAILERS: [u32; 4] = [NORTHERN, NORTHERN, SOUTHERN, SMALL];
