@@ -61,7 +61,8 @@ account_refusal s h day =
     ∷ record { number = asked_day_without_load; holds = not (is_some (load s h day)) } ∷ [])
 
 abbrev pub account_named : Setting → ℕ → ℕ → Option ℕ
-account_named s day n = if n == 14 then Some (date_of_day_number (s.first + day)) else None
+account_named s day n =
+    if n == asked_day_without_load then Some (date_of_day_number (s.first + day)) else None
 
 -- What a book tells, in every case: of an account beside an estimator that means m, of days and sums beside any.
 

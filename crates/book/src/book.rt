@@ -8,7 +8,7 @@ ghost use Rattle.terms.specs.Answers.{Answers};
 ghost use Rattle.terms.specs.Refusal.{number_of};
 ghost use Rattle.calendar.specs.Digits.{date_of_day_number};
 ghost use Rattle.ledger.specs.Opening.{has_day_number};
-ghost use Rattle.terms.specs.RefusalNumbers.{beyond_limits};
+ghost use Rattle.terms.specs.RefusalNumbers.{beyond_limits, outside_book};
 
 use calendar::{date_of_day_number, day_number_of};
 use estimators::{Estimator, Weather};
@@ -312,7 +312,7 @@ impl Book {
     fn day_of_number(&self, number: u32) -> Result<u32, Refusal>
         ensures { Answers result
             (has_day_number self.now.ledger.opening 0 number)
-            (number - self.now.ledger.opening.first) 5 }
+            (number - self.now.ledger.opening.first) outside_book }
     {
         let opening = self.ledger.opening();
         if !(opening.first..opening.first + opening.days).contains(&number) {

@@ -85,7 +85,8 @@ reading_span_refusal s h r =
 
 -- the day that such a refusal names
 unfoldable pub span_named : Setting → History → Reading → ℕ → Option ℕ
-span_named s h r n = if n == 11 then date_of_day s (first_day_without_load s h (covered_days r)) else None
+span_named s h r n =
+    if n == covered_day_without_load then date_of_day s (first_day_without_load s h (covered_days r)) else None
 
 abbrev pub IsSpanJudgement : {X : Type 0} → Setting → History → Reading → Result X Refusal → Type 0
 IsSpanJudgement s h r (Ok x) = reading_span_refusal s h r ≡ None

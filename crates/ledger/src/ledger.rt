@@ -10,6 +10,7 @@ ghost use Rattle.terms.specs.Answers.{Answers};
 ghost use Rattle.ledger.specs.Limits.{all_intervals_within, gate_within, opening_within};
 ghost use Rattle.ledger.specs.Opening.{JudgesDay, has_day_number};
 ghost use Rattle.rules.specs.Calls.{is_between};
+ghost use Rattle.terms.specs.RefusalNumbers.{outside_book};
 
 use super::limits::retailer_within;
 use super::opening::{Opening, OpeningRequest, Unopened, clear_front, judge_opening};
@@ -131,7 +132,7 @@ impl Ledger {
     pub(crate) fn day_of_number(&self, day_number: u32, later: u32) -> Result<u32, Refusal>
         requires { later ≤ 1 }
         ensures { Answers result (has_day_number self.now.opening later day_number)
-            (day_number - self.now.opening.first) 5 }
+            (day_number - self.now.opening.first) outside_book }
     {
         let opening = self.opening;
         if !(opening.first..opening.first + opening.days + later).contains(&day_number) {

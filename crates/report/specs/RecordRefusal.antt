@@ -11,7 +11,7 @@ use Rattle.rules.specs.declared.call.Call.{Call}
 use Rattle.terms.specs.Refusal.{number_of, date_named}
 use Rattle.report.specs.IntakeHistory.{IntakeHistory, call_of_record, history_with_record, largest_book, opened, unopened}
 use Rattle.line_format.specs.Limits.{verdict}
-use Rattle.terms.specs.RefusalNumbers.{out_of_turn}
+use Rattle.terms.specs.RefusalNumbers.{covered_day_without_load, end_not_allowed, negative_energy, out_of_turn, outside_book, start_is_no_mark}
 
 -- a refusal with its place: its number, the first column of the leftmost field at fault, and the
 -- date of the day that it names, if it names one
@@ -64,8 +64,10 @@ outside_column s x = 5
 -- for 6 the energy, for 9 and 11 the start, for 10 the end, else the point
 abbrev pub book_column : Setting → Record → ℕ → ℕ
 book_column s x n =
-    if n == 5 then outside_column s x
-    else (if n == 6 then 35 else (if n == 9 || n == 11 then 15 else (if n == 10 then 25 else 5)))
+    if n == outside_book then outside_column s x
+    else (if n == negative_energy then 35
+    else (if n == start_is_no_mark || n == covered_day_without_load then 15
+    else (if n == end_not_allowed then 25 else 5)))
 
 -- what a book of a history refuses a record's call by
 abbrev pub book_refusal : Setting → History → Record → Option Call → Option PlacedRefusal

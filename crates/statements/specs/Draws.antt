@@ -33,11 +33,13 @@ draw_refusal s h span wanted places =
 
 -- the day that a refused draw names, by its date: the first of the span that has no load
 abbrev pub draw_named : Setting → History → Span → ℕ → Option ℕ
-draw_named s h span n = if n == 14 then date_of_day s (first_day_without_load s h (span_days s span)) else None
+draw_named s h span n =
+    if n == asked_day_without_load then date_of_day s (first_day_without_load s h (span_days s span)) else None
 
 -- the part of both that speaks of loads, of n days from day d on
 abbrev pub loads_refusal : Setting → History → ℕ → ℕ → Option ℕ
-loads_refusal s h d n = if is_some (first_day_without_load s h (range_with_len d n)) then Some 14 else None
+loads_refusal s h d n =
+    if is_some (first_day_without_load s h (range_with_len d n)) then Some asked_day_without_load else None
 
 abbrev pub loads_named : Setting → History → ℕ → ℕ → ℕ → Option ℕ
 loads_named s h d n number = date_of_day s (first_day_without_load s h (range_with_len d n))
