@@ -209,7 +209,9 @@ refusal s h c = first_refusal (conditions s h c)
 -- the date that a call refused by number n names: of the first covered day, or of the day asked for, that has no load
 abbrev pub named_date : Setting → History → Call → (n : ℕ) → Option ℕ
 named_date s h (EnterReading delivery) n =
-    if n == covered_day_without_load then date_of_day s (first_day_without_load s h (covered_days (reading_of s delivery))) else None
+    if n == covered_day_without_load
+    then date_of_day s (first_day_without_load s h (covered_days (reading_of s delivery)))
+    else None
 named_date s h (AskDay date) n = if n == asked_day_without_load then Some date else None
 named_date s h c n = None
 
