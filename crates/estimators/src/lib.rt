@@ -2,7 +2,7 @@
 //! others.
 //!
 //! An `Estimator` has a figure or none for each point and day place, and a `Weather` estimator takes a degree-day count
-//! for a day place. `Cap` keeps the figures of another below each point's greatest daily flow, and `FallBack` takes a
+//! for a day place. `Cap` lets no figure of another pass a point's greatest daily flow, and `FallBack` takes a
 //! second's figure where the first has none.
 //!
 //! Proved: no figure is above `GREATEST_FIGURE`, and beyond the points, day places and counts there is none; a count

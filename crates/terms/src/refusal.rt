@@ -20,7 +20,7 @@ pub enum Refusal {
     /// 4: eight digits are no date from 20010101 to 20991231.
     #[error("there is no such date")]
     NoSuchDate,
-    /// 5: a date lies before the book's first day or after its last.
+    /// 5: a date lies before the book's first day or after its last; a reading may end on the day after the last.
     #[error("a date lies outside the book")]
     OutsideBook,
     /// 6: a reading's energy is less than 0.
@@ -32,10 +32,11 @@ pub enum Refusal {
     /// 8: a point is enrolled once only.
     #[error("the point is enrolled already")]
     PointEnrolledAlready,
-    /// 9: a reading starts where its point's readings neither start nor end.
+    /// 9: a reading starts neither on its point's start day nor where a reading that the point holds ends.
     #[error("the reading starts at no mark of its point")]
     StartIsNoMark,
-    /// 10: a reading ends between two marks of its point.
+    /// 10: a reading does not end after its start, or neither at a mark of its point nor later than all its marks; a
+    /// span ends before it starts.
     #[error("the reading ends neither at a mark of its point nor later than all its marks")]
     EndNotAllowed,
     /// 11: the date of the first day that the reading covers and that has no load.
@@ -44,7 +45,7 @@ pub enum Refusal {
     /// 12: an estimate or a customer's own reading would replace an actual or a substituted one.
     #[error("a soft reading does not replace a firm one")]
     SoftOverFirm,
-    /// 13: the list of readings has no free place.
+    /// 13: more readings would be held than the reading list has places.
     #[error("no place is left for a reading")]
     ReadingPlacesFull,
     /// 14: the date of the first day asked for that has no load.
