@@ -36,7 +36,7 @@ impl EstimatedPoint {
 impl Row for EstimatedPoint {
     ghost use Rattle.allocation.specs.EstimatedPoint.{with_figure};
 
-    const LARGEST: u64 = 1_000_000;
+    const LARGEST: u64 = terms::GREATEST_FIGURE;
 
     ghost LARGEST = { largest_estimate };
 

@@ -32,7 +32,7 @@ impl ReadingDay {
 impl Row for ReadingDay {
     ghost use Rattle.allocation.specs.ReadingDay.{with_share};
 
-    const LARGEST: u64 = 1_000_000_000;
+    const LARGEST: u64 = super::loads::LARGEST_GATE;
 
     ghost LARGEST = { largest_day_weight };
 

@@ -85,5 +85,5 @@ history_after_calls s h (call ∷ calls) = history_after_calls s (history_after_
 -- a call is judged: where nothing refuses it, it is accepted, and P holds of what is given; else it is refused
 -- by that number, with the day that is named under it
 abbrev pub IsJudgedBy : {X : Type 0} → Option ℕ → (ℕ → Option ℕ) → (X → Type 0) → Result X Refusal → Type 0
-IsJudgedBy refusal named P (Ok x) = (refusal ≡ None) × P x
-IsJudgedBy refusal named P (Err e) = (refusal ≡ Some (number_of e)) × (date_named e ≡ named (number_of e))
+IsJudgedBy number named P (Ok x) = (number ≡ None) × P x
+IsJudgedBy number named P (Err e) = (number ≡ Some (number_of e)) × (date_named e ≡ named (number_of e))

@@ -32,7 +32,9 @@ pub enum Answer {
 /// all answers.
 #[derive(Drop)]
 pub struct Served {
+    /// The book, whether or not its calls were served.
     pub book: Book,
+    /// Whether they were.
     pub outcome: Result<(), Refusal>,
 }
 
@@ -126,7 +128,8 @@ impl Book {
         ensures refused { IfErr result
             (λ e. (e.lists ≡ lists) × (estimator.new ≡ estimator.old) × (answers.new ≡ answers.old)) }
         ensures served { IfOk result
-            (λ served. IsAcceptedWhen served.outcome (nat_le (length calls.now) (length answers.old)) 15) }
+            (λ served. IsAcceptedWhen served.outcome (nat_le (length calls.now) (length answers.old))
+            list_too_short) }
         ensures unserved { IfOk result
             (λ served. is_ok served.outcome ≡ false
             → (estimator.new ≡ estimator.old) × (answers.new ≡ answers.old)

@@ -3,7 +3,7 @@ use Rattle.std.specs.Prelude.{◌≡◌, ℕ, ◌≤◌, Bool, false, cond, Some
 use Rattle.std.proofs.Common.{arith}
 use Rattle.std.proofs.lemmas.Bool.{cond-false}
 use Rattle.std.proofs.lemmas.Option.{none-some, cond_some}
-use Rattle.estimators.specs.Limits.{greatest_figure}
+use Rattle.terms.specs.Limits.{greatest_figure}
 
 pub none_bounded : (x : ℕ) → None ≡ Some x → x ≤ greatest_figure
 none_bounded x e = absurd (none-some x e)

@@ -1,8 +1,9 @@
 // The two plainest estimators that keep the laws of every estimator.
 ghost use Rattle.std.specs.Prelude.{◌&&◌, if◌then◌else◌, Option, refl};
-ghost use Rattle.estimators.specs.Limits.{greatest_figure, point_within, day_place_within};
+ghost use Rattle.estimators.specs.Limits.{point_within, day_place_within};
 ghost use Rattle.estimators.specs.Meaning.{weather_within};
 ghost use Rattle.book_tests.specs.Laws.{none_bounded, greatest_bounded, greatest_ranged};
+ghost use Rattle.terms.specs.Limits.{greatest_figure};
 
 use estimators::{
     Estimator, GREATEST_FIGURE, Weather, count_within, day_place_within, judge_weather,

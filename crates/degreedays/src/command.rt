@@ -16,8 +16,8 @@ const HELP: &str = "Words:
   <W1> .. <W16>  Winds in knots, every three hours at each of two stations, from 0 to 100
   <SUNSHINE>     In tenths of an hour, from 0 to 160
 
-Exit status: 0 done; 1 a word is missing or beyond its limits, or a write failed;
-2 an option is not understood.";
+Exit status: 0 done; 1 a word is missing, left over or beyond its limits, or a write
+failed; 2 there are no words, or an option is not understood.";
 
 /// The command line of the program. Its words are kept as texts, since the first that is at fault is named in its turn,
 /// be it no number or beyond its limits.

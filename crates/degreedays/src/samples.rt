@@ -27,7 +27,7 @@ pub type Samples = [Option<Answer>; 3];
 
 /// What the three sample points are given on a date, given by its eight digits, before and after a degree-day count,
 /// in hundredths, is entered for it. `NoSuchDate` (4) where there is no such date, `BeyondLimits` (3) for a count
-/// above 20000.
+/// above `GREATEST_COUNT`.
 pub fn before_and_after(date: u32, count: u32) -> Result<(Samples, Samples), Refusal> {
     let mut estimator = sample_estimator(date)?;
     let before = samples(&estimator);

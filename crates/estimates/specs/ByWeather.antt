@@ -7,7 +7,7 @@ use Rattle.std.proofs.lemmas.Bool.{and_cases, cond_both}
 use Rattle.std.proofs.lemmas.Bool.Decides.{nat_tests}
 use Rattle.std.proofs.lemmas.Option.{option_and_then_some}
 use Rattle.estimators.specs.Entries.{entry_numbered}
-use Rattle.estimators.specs.Limits.{last_point, last_day, greatest_figure, point_within}
+use Rattle.estimators.specs.Limits.{last_point, last_day, point_within}
 use Rattle.estimators.specs.Limits.{day_place_within, count_within}
 use Rattle.estimators.specs.Meaning.{Meaning, IsBounded, IsRanged, IsBoundedUnder, IsRangedUnder}
 use Rattle.estimators.specs.Meaning.{weather_within}
@@ -15,6 +15,7 @@ use Rattle.estimators.proofs.Tables.{entry_passes}
 use Rattle.estimates.specs.Factors.{factors_within, weather_figure, weather_figure_bound}
 use Rattle.estimates.specs.declared.by_weather.ByWeather.{ByWeather}
 use Rattle.estimates.specs.declared.factors.Factors.{Factors}
+use Rattle.terms.specs.Limits.{greatest_figure}
 
 -- the factors of a point, where it has any
 abbrev pub factors_of : ByWeather → ℕ → Option Factors

@@ -2,8 +2,9 @@
 use Rattle.std.specs.Prelude.{ℕ, ◌+◌, ◌*◌, ◌/◌, ◌≤◌, Bool, T, ◌&&◌, nat_le}
 use Rattle.std.proofs.Common.{mul-le-mul, arith}
 use Rattle.std.proofs.lemmas.Bool.Decides.{nat_tests}
-use Rattle.estimators.specs.Limits.{greatest_figure, greatest_count, count_within, point_within}
+use Rattle.estimators.specs.Limits.{greatest_count, count_within, point_within}
 use Rattle.estimates.specs.declared.factors.Factors.{Factors}
+use Rattle.terms.specs.Limits.{greatest_figure}
 
 -- a base load is at most this, in kilojoules a day
 abbrev pub greatest_base_load : ℕ

@@ -5,7 +5,7 @@ use Rattle.std.proofs.Common.{inl, inr, arith}
 use Rattle.std.specs.Option.{option_map, option_map_or}
 use Rattle.std.proofs.lemmas.Bool.{and_cases, and_right}
 use Rattle.estimators.specs.Entries.{entry_numbered}
-use Rattle.estimators.specs.Limits.{last_point, greatest_figure, point_within, day_place_within, count_within}
+use Rattle.estimators.specs.Limits.{last_point, point_within, day_place_within, count_within}
 use Rattle.estimators.specs.Meaning.{Meaning, IsBounded, IsRanged, IsBoundedUnder, IsRangedUnder}
 use Rattle.estimators.specs.Meaning.{weather_within}
 use Rattle.estimators.proofs.Tables.{entry_passes}
@@ -13,6 +13,7 @@ use Rattle.estimates.specs.Season.{month_of_day_number}
 use Rattle.estimates.specs.Usage.{usage_within, hot_water_figure, hot_water_figure_bound}
 use Rattle.estimates.specs.declared.hot_water.HotWater.{HotWater}
 use Rattle.estimates.specs.declared.usage.Usage.{Usage}
+use Rattle.terms.specs.Limits.{greatest_figure}
 
 -- the hot water of a point, where it has any
 abbrev pub usage_of : HotWater → ℕ → Option Usage

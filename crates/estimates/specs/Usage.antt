@@ -2,10 +2,11 @@
 use Rattle.std.specs.Prelude.{ℕ, ◌+◌, ◌*◌, ◌/◌, ◌<◌, ◌≤◌, Bool, T, ◌&&◌, nat_le}
 use Rattle.std.proofs.Common.{mul-le-mul, div-lt_iff_lt-mul, arith}
 use Rattle.std.proofs.lemmas.Bool.Decides.{nat_tests}
-use Rattle.estimators.specs.Limits.{greatest_figure, point_within}
+use Rattle.estimators.specs.Limits.{point_within}
 use Rattle.estimates.specs.Season.{season_of, reading_weight, day_weight}
 use Rattle.estimates.specs.Season.{reading_weight_bound, day_weight_bound}
 use Rattle.estimates.specs.declared.usage.Usage.{Usage}
+use Rattle.terms.specs.Limits.{greatest_figure}
 
 -- a reading is of at most so many litres
 abbrev pub most_litres : ℕ
@@ -62,7 +63,7 @@ small_products u reading day within reading_low day_low =
 
 -- a quotient that a million times the divisor and more covers
 quotient_bound : (energy days : ℕ) → energy ≤ 12000000000 → 1 ≤ days
-    → (energy + 6000 * days) / (12000 * days) ≤ 1000000
+    → (energy + 6000 * days) / (12000 * days) ≤ greatest_figure
 quotient_bound energy days low some =
     let divisor : 0 < 12000 * days = omega arith in
     let covered : energy + 6000 * days < 1000001 * (12000 * days) = omega arith in

@@ -20,7 +20,7 @@ pub struct DegreeDayTerms {
 
 impl DegreeDayTerms {
     // The count that the terms come to, in hundredths of a degree day. The definitions make terms of any observations,
-    // also of those beyond their limits, so the type does not keep the limits of the terms.
+    // also of those beyond their limits.
     pub(crate) fn count(&self) -> u32
         requires { AreTermsWithin self.now }
         ensures { (result ≡ count_of_terms self.now) × (result ≤ largest_degree_days) }

@@ -5,7 +5,7 @@ ghost use Rattle.calendar.specs.Gregorian.{days_in_all};
 ghost use Rattle.estimators.specs.Entries.{entries_pass};
 ghost use Rattle.estimators.specs.Limits.{last_point};
 ghost use Rattle.estimates.specs.Usage.{usage_within};
-ghost use Rattle.terms.specs.RefusalNumbers.{beyond_limits};
+ghost use Rattle.terms.specs.RefusalNumbers.{beyond_limits, no_such_date};
 
 use super::season::month_of_day_number;
 use super::usage::Usage;
@@ -43,7 +43,7 @@ impl HotWater {
         ensures { AnswersBy result (is_date first_date)
             (λ h. (h.first_day_number ≡ day_number_of first_date)
             × (h.usages ≡ replicate last_point Option.None))
-            4 }
+            no_such_date }
     {
         let first_day_number = day_number_of(first_date)?;
         Ok(HotWater {

@@ -2,10 +2,11 @@
 use Rattle.std.specs.Prelude.{◌≡◌, ℕ, ◌-◌, ◌≤◌, min, Bool, ◌&&◌, List, Some, None, Option, nat_le, slice_set}
 use Rattle.std.proofs.Common.{arith}
 use Rattle.std.specs.Option.{option_map}
-use Rattle.estimators.specs.Limits.{last_point, greatest_figure, point_within}
+use Rattle.estimators.specs.Limits.{last_point, point_within}
 use Rattle.estimators.specs.Entries.{entry_numbered}
 use Rattle.estimators.specs.Meaning.{Meaning, IsBounded, IsRanged, IsBoundedUnder, IsRangedUnder}
 use Rattle.estimators.specs.declared.cap.Cap.{Cap}
+use Rattle.terms.specs.Limits.{greatest_figure}
 
 -- the greatest daily flow of a point, where it has one
 abbrev pub flow_of : List (Option ℕ) → ℕ → Option ℕ

@@ -9,10 +9,6 @@ last_point = 256
 abbrev pub last_day : ℕ
 last_day = 400
 
--- a figure is at most this, in megajoules
-abbrev pub greatest_figure : ℕ
-greatest_figure = 1000000
-
 -- a degree-day count is at most this, in hundredths
 abbrev pub greatest_count : ℕ
 greatest_count = 20000

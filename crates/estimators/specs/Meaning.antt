@@ -1,6 +1,7 @@
 -- What an estimator means, its limits, and what entering a count does to it.
 use Rattle.std.specs.Prelude.{◌≡◌, ℕ, ◌≤◌, Bool, false, ◌&&◌, Some, None, Option, ◌≢◌}
-use Rattle.estimators.specs.Limits.{greatest_figure, point_within, day_place_within, count_within}
+use Rattle.estimators.specs.Limits.{point_within, day_place_within, count_within}
+use Rattle.terms.specs.Limits.{greatest_figure}
 
 -- a figure or none for each point and day place
 abbrev pub Meaning : Type 0

@@ -7,8 +7,8 @@ ghost use Rattle.estimators.specs.Cap.{capped_ranged_under};
 ghost use Rattle.terms.specs.RefusalNumbers.{beyond_limits};
 
 use super::estimator::{Estimator, Weather};
-use super::limits::{GREATEST_FIGURE, POINTS, entry_numbered, point_within};
-use terms::Refusal;
+use super::limits::{POINTS, entry_numbered, point_within};
+use terms::{GREATEST_FIGURE, Refusal};
 
 /// The figures of an estimator, at most a point's greatest daily flow where it has one.
 #[derive(Drop)]

@@ -19,6 +19,7 @@ pub use cap::Cap;
 pub use estimator::{Estimator, Weather};
 pub use fall_back::FallBack;
 pub use limits::{
-    DAYS, GREATEST_COUNT, GREATEST_FIGURE, POINTS, count_within, day_place_within, entry_numbered,
-    judge_weather, point_within,
+    DAYS, GREATEST_COUNT, POINTS, count_within, day_place_within, entry_numbered, judge_weather,
+    point_within,
 };
+pub use terms::GREATEST_FIGURE;

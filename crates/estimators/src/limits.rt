@@ -14,9 +14,6 @@ pub const POINTS: u32 = 256;
 /// Day places go from 1, the book's first day, to this.
 pub const DAYS: u32 = 400;
 
-/// The greatest figure of a point on a day, in megajoules.
-pub const GREATEST_FIGURE: u64 = 1_000_000;
-
 /// The greatest degree-day count of a day, in hundredths of a degree day.
 pub const GREATEST_COUNT: u32 = 20_000;
 

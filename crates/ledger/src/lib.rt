@@ -3,8 +3,9 @@
 //! A [`Ledger`] keeps the gate energies of the book's days, the energies of its interval meters, the
 //! enrolments of its points and the readings that the book holds. Of every setting and history that
 //! it is the ledger of, it is proved to judge each call as the rules do, with the refusal that comes
-//! first and the day that it names, and to be after an entry the ledger of what was accepted. A
-//! refused entry leaves it as it was. No call of an open ledger allocates.
+//! first and the day that it names, and to be after each entry that it holds the ledger of what was
+//! accepted; a degree-day count is judged here, and the estimator holds it. A refused entry leaves
+//! the ledger as it was. No call of an open ledger allocates.
 #![tactic(auto)]
 
 mod ledger;

@@ -15,6 +15,10 @@ abbrev pub number_and_column : Result (Unit {0}) Fault → Option (ℕ × ℕ)
 number_and_column (Ok _) = None
 number_and_column (Err f) = Some (number_of f.refusal, f.column)
 
+-- line numbers stop at this one
+abbrev pub last_line_number : ℕ
+last_line_number = 9999999999
+
 -- a fault with its line and its layer
 abbrev pub line_fault : ℕ → Fault → LineFault
 line_fault n f =

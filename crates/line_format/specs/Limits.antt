@@ -8,12 +8,17 @@ use Rattle.estimators.specs.Limits.{greatest_count}
 use Rattle.line_format.specs.Kind.{Kind, Value, number, signed, date}
 use Rattle.allocation.specs.Loads.{largest_interval, meters}
 use Rattle.terms.specs.Limits.{largest_energy, retailers}
+use Rattle.terms.specs.RefusalNumbers.{beyond_limits, no_such_date}
 use Rattle.line_format.specs.Record.{Content, contents, tag_of}
 use Rattle.line_format.specs.declared.limits.Limits.{Limits}
 use Rattle.line_format.specs.declared.record.Record.{Record}
 use Rattle.line_format.specs.declared.record.Record.TheVariants as of
 use Rattle.line_format.specs.declared.tag.Tag.{Tag}
 use Rattle.line_format.specs.declared.tag.Tag.TheVariants.{Open, Fact, Enrl, Gate, Intv, Degd, Read}
+
+-- the largest book that the lines of an input can open
+abbrev pub largest_book : Limits
+largest_book = record { days = 62; points = 32 }
 
 -- the least and the largest number of a field
 pub record Range : Type 0 where
@@ -94,4 +99,5 @@ field_refusal n fields = leftmost_refusal n 5 fields
 
 -- a number beyond its limits refuses a record as 3, else a date that does not exist as 4
 abbrev pub verdict : Limits → Record → Option (ℕ × ℕ)
-verdict l r = option_or (field_refusal 3 (numbers_within l r)) (field_refusal 4 (dates_exist r))
+verdict l r =
+    option_or (field_refusal beyond_limits (numbers_within l r)) (field_refusal no_such_date (dates_exist r))

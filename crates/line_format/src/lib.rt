@@ -27,7 +27,7 @@ mod tag;
 
 pub use fault::{Fault, LAST_LINE_NUMBER, LineFault, on_line};
 pub use field::Field;
-pub use limits::{Limits, check_limits};
+pub use limits::{LARGEST_BOOK, Limits, check_limits};
 pub use line::{check_line, read_back, read_line, write_again};
 pub use record::{
     DegreeDays, Enrolment, Factors, GateDay, IntervalEnergy, Opening, Reading, Record, write_record,

@@ -14,7 +14,7 @@ use estimates::{GREATEST_BASE_LOAD, GREATEST_SENSITIVITY};
 use estimators::GREATEST_COUNT;
 use terms::{LARGEST_ENERGY, RETAILERS, Refusal};
 
-/// The largest book that lines may speak of.
+/// The largest days and points of a book that lines may speak of.
 #[derive(Clone, Copy, PartialEq, Eq, Debug)]
 pub struct Limits {
     /// The most days.
@@ -22,6 +22,12 @@ pub struct Limits {
     /// The last point.
     pub points: u32,
 }
+
+/// The largest book that the lines of an input can open, in days and points.
+pub const LARGEST_BOOK: Limits = Limits {
+    days: 62,
+    points: 32,
+};
 
 // Whether a number lies in a range, its ends among it.
 fn is_within(value: u64, least: u64, most: u64) -> bool

@@ -4,16 +4,10 @@
 
 mod record_text;
 
-use line_format::{LAST_LINE_NUMBER, Limits, check_line};
+use line_format::{LARGEST_BOOK, LAST_LINE_NUMBER, check_line};
 use record_text::RecordText;
 use std::io;
 use std::io::{BufRead, BufReader};
-
-// The largest book that the lines may speak of.
-const LIMITS: Limits = Limits {
-    days: 62,
-    points: 32,
-};
 
 fn main(rt: HostRuntime) -> io::Result<()> {
     let mut input = BufReader::new(rt.alloc(), rt.stdin())?;
@@ -24,7 +18,7 @@ fn main(rt: HostRuntime) -> io::Result<()> {
             break;
         }
         let number = count.min(LAST_LINE_NUMBER);
-        match check_line(number, line.as_slice(), LIMITS) {
+        match check_line(number, line.as_slice(), LARGEST_BOOK) {
             Ok(record) => println!(rt; "line {number}: {}", RecordText(record))?,
             Err(fault) => println!(rt; "{fault}")?,
         }

@@ -1,6 +1,7 @@
 ghost use Rattle.std.specs.Prelude.{◌≡◌, length, IfOk, vec_len};
 ghost use Rattle.book.specs.Book.{lists_of};
 
+use allocation::METERS;
 use book::{Answer, Book, Lists, OpeningRequest};
 use estimates::{ByWeather, Factors};
 use rules::Call;
@@ -19,8 +20,7 @@ pub(crate) const POINTS: usize = 3;
 // 2.5 percent, in ten-thousandths.
 const UNACCOUNTED: u64 = 250;
 
-// The ledger's number, which it keeps to itself.
-const INTERVAL_METERS: usize = 32;
+const INTERVAL_METERS: usize = METERS as usize;
 
 const READING_PLACES: usize = 8;
 

@@ -20,10 +20,10 @@ use Rattle.terms.specs.declared.refusal.Refusal.{Refusal}
 use Rattle.report.specs.declared.stage.Stage.{Stage}
 use Rattle.report.specs.declared.stage.Stage.TheVariants as stage
 use Rattle.report.specs.Intake.{AcceptsRecord, HasFactors, is_turn_at}
-use Rattle.report.specs.IntakeHistory.{largest_book, no_figure, opened, unopened, weather_meaning}
+use Rattle.report.specs.IntakeHistory.{no_figure, opened, unopened, weather_meaning}
 use Rattle.report.specs.RecordRefusal.{IsWithinLimits, placed_refusal}
 use Rattle.estimates.specs.ByWeather.{weather_figures, weather_figures_under, weather_figures_bounded_under}
-use Rattle.line_format.specs.Limits.{verdict}
+use Rattle.line_format.specs.Limits.{verdict, largest_book}
 
 -- the factors that a record enters
 abbrev pub factors_in : Factors → weather.Factors

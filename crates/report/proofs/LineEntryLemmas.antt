@@ -11,11 +11,11 @@ use Rattle.estimates.specs.declared.by_weather.ByWeather.{ByWeather}
 use Rattle.report.specs.declared.stage.Stage.{Stage}
 use Rattle.report.specs.declared.stage.Stage.TheVariants as stage
 use Rattle.report.specs.Intake.{EntersLine, EntersRecord, IsStageOf, is_turn_at}
-use Rattle.report.specs.IntakeHistory.{IntakeHistory, history_with_record, largest_book, opened, unopened}
-use Rattle.report.specs.LineContent.{last_line_number, layer_by_number, malformed_at, record_is, reported_answer, reported_refusal}
+use Rattle.report.specs.IntakeHistory.{IntakeHistory, history_with_record, opened, unopened}
+use Rattle.report.specs.LineContent.{layer_by_number, malformed_at, record_is, reported_answer, reported_refusal}
 use Rattle.report.specs.RecordRefusal.{PlacedRefusal, history_unless_refused, is_in_turn, turn_refusal, placed_refusal, refusal_by_book}
-use Rattle.line_format.specs.Limits.{dates_exist, leftmost_refusal, field_refusal, verdict, numbers_within}
-use Rattle.line_format.specs.Fault.{on_line}
+use Rattle.line_format.specs.Limits.{dates_exist, leftmost_refusal, field_refusal, verdict, numbers_within, largest_book}
+use Rattle.line_format.specs.Fault.{on_line, last_line_number}
 use Rattle.line_format.specs.Line.{ReadsLine}
 
 -- the first four refusals name no day

@@ -17,10 +17,10 @@ use Rattle.terms.specs.Answers.{Answers, accepted_since}
 use Rattle.terms.specs.declared.refusal.Refusal.{Refusal}
 use Rattle.report.proofs.FactorsLemmas.{none_bounded, none_yet, weather_bounded, weather_stands}
 use Rattle.report.specs.Intake.{HasFactors, HasRoom, IsOpenedBookOf, weather_meanings}
-use Rattle.report.specs.IntakeHistory.{largest_book, no_figure, setting_of_opening, weather_meaning}
+use Rattle.report.specs.IntakeHistory.{no_figure, setting_of_opening, weather_meaning}
 use Rattle.estimates.specs.ByWeather.{weather_figures, weather_figures_under}
 use Rattle.ledger.specs.Opening.{is_opening_beyond_limits}
-use Rattle.line_format.specs.Limits.{ends_in_time, verdict}
+use Rattle.line_format.specs.Limits.{ends_in_time, verdict, largest_book}
 use Rattle.book.specs.Case.{Beyond, Case}
 use Rattle.book.specs.Book.{IsBookOf}
 use Rattle.book.specs.Opening.{OpensBook, are_book_lists_short, book_opening_refusal, opening_case, rest_of}

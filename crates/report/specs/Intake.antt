@@ -12,8 +12,8 @@ use Rattle.line_format.specs.declared.record.Factors.{Factors}
 use Rattle.line_format.specs.declared.record.Opening.{Opening}
 use Rattle.line_format.specs.declared.record.Record.{Record}
 use Rattle.rules.specs.History.{History, Setting}
-use Rattle.report.specs.IntakeHistory.{IntakeHistory, history_with_record, largest_book, latest_factors, opened, reading_places, setting_of_opening, unopened}
-use Rattle.report.specs.LineContent.{HasContent, LineContent, history_after_line, last_line_number, line_refusal, reported_answer, reported_refusal}
+use Rattle.report.specs.IntakeHistory.{IntakeHistory, history_with_record, latest_factors, opened, reading_places, setting_of_opening, unopened}
+use Rattle.report.specs.LineContent.{HasContent, LineContent, history_after_line, line_refusal, reported_answer, reported_refusal}
 use Rattle.report.specs.RecordRefusal.{history_unless_refused, is_before_book, placed_refusal, refusal_by_book}
 use Rattle.report.specs.declared.book_days.BookDays.{BookDays}
 use Rattle.report.specs.declared.intake.Intake.{Intake}
@@ -25,6 +25,8 @@ use Rattle.estimates.specs.ByWeather.{count_of, factors_of, weather_figures, wea
 use Rattle.book.specs.Case.{Beyond}
 use Rattle.estimators.specs.Meaning.{Meanings, meanings_of}
 use Rattle.book.specs.Book.{IsBookOf}
+use Rattle.line_format.specs.Limits.{largest_book}
+use Rattle.line_format.specs.Fault.{last_line_number}
 
 -- lists in whose memory the largest book can be kept
 pub record HasRoom (lists : Lists) : Type 0 where

@@ -5,7 +5,7 @@ use Rattle.calendar.specs.Digits.{day_number_of, date_of_day_number}
 use Rattle.estimates.specs.Factors.{weather_figure}
 use Rattle.estimates.specs.declared.factors.Factors as weather
 use Rattle.estimators.specs.Meaning.{Meaning, weather_within}
-use Rattle.line_format.specs.declared.limits.Limits.{Limits}
+use Rattle.line_format.specs.Limits.{largest_book}
 use Rattle.line_format.specs.declared.record.Factors.{Factors}
 use Rattle.line_format.specs.declared.record.Opening.{Opening}
 use Rattle.line_format.specs.declared.record.Record.{Record}
@@ -27,11 +27,7 @@ pub data IntakeHistory : Type 0 where
 abbrev pub initial_history : IntakeHistory
 initial_history = unopened []
 
--- the largest book that lines can open
-abbrev pub largest_book : Limits
-largest_book = record { days = 62; points = 32 }
-
--- the places that it has for readings
+-- the places that a book of lines has for readings
 abbrev pub reading_places : ℕ
 reading_places = 256
 

@@ -1,6 +1,7 @@
 -- What a line says, and what is reported of it.
 use Rattle.std.specs.Prelude.{◌≡◌, ℕ, ◌+◌, min, T, List, [], ◌∷◌, Some, None, Ok, Err, Option, Result, ◌==◌, find}
 use Rattle.std.specs.Option.{option_map, unwrap_or}
+use Rattle.line_format.specs.Fault.{last_line_number}
 use Rattle.line_format.specs.declared.fault.LineFault.{LineFault}
 use Rattle.line_format.specs.declared.record.Record.{Record}
 use Rattle.terms.specs.Refusal.{number_of, layer_of, layer_number, date_named}
@@ -55,10 +56,6 @@ layer_by_number n =
     unwrap_or
     (option_map (λ e. layer_number (layer_of e)) (find (λ e. number_of e == n) refusals_by_number))
     0
-
--- line numbers stop at this one
-abbrev pub last_line_number : ℕ
-last_line_number = 9999999999
 
 -- the line after k others, refused
 abbrev pub reported_refusal : ℕ → PlacedRefusal → ReportedRefusal

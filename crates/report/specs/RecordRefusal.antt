@@ -9,8 +9,8 @@ use Rattle.rules.specs.Calls.{refusal, is_in_book, named_date}
 use Rattle.rules.specs.History.{History, Setting}
 use Rattle.rules.specs.declared.call.Call.{Call}
 use Rattle.terms.specs.Refusal.{number_of, date_named}
-use Rattle.report.specs.IntakeHistory.{IntakeHistory, call_of_record, history_with_record, largest_book, opened, unopened}
-use Rattle.line_format.specs.Limits.{verdict}
+use Rattle.report.specs.IntakeHistory.{IntakeHistory, call_of_record, history_with_record, opened, unopened}
+use Rattle.line_format.specs.Limits.{verdict, largest_book}
 use Rattle.terms.specs.RefusalNumbers.{covered_day_without_load, end_not_allowed, negative_energy, out_of_turn, outside_book, start_is_no_mark}
 
 -- a refusal with its place: its number, the first column of the leftmost field at fault, and the
@@ -20,7 +20,7 @@ pub record PlacedRefusal : Type 0 where
   pub column : ℕ
   pub date : Option ℕ
 
--- what refuses a record, in the rules' words
+-- a refusal as the rules tell it: its number, the column at fault and the date that it names
 abbrev pub placed_refusal : {X : Type 0} → Result X Fault → Option PlacedRefusal
 placed_refusal (Ok x) = None
 placed_refusal (Err f) =
@@ -45,7 +45,7 @@ turn_refusal = record { number = out_of_turn; column = 1; date = None }
 abbrev pub IsWithinLimits : Record → Type 0
 IsWithinLimits x = verdict largest_book x ≡ None
 
--- a refusal by the limits, and the dates that there are
+-- the refusal of a record whose numbers are beyond their limits, or whose dates do not exist
 abbrev pub refusal_by_limits : Record → Option PlacedRefusal
 refusal_by_limits x =
     option_map (λ at. record { number = at.0; column = at.1; date = None }) (verdict largest_book x)

@@ -5,11 +5,13 @@ ghost use Rattle.report.specs.IntakeHistory.{call_of_record, day_count_of, initi
 ghost use Rattle.report.specs.RecordRefusal.{IsWithinLimits, is_before_book, turn_refusal, placed_refusal};
 
 use super::day_line::DayLine;
-use super::opened_book::LARGEST_BOOK;
 use super::stage::Stage;
 use book::Lists;
 use estimates::{ByWeather, Factors};
-use line_format::{self, Fault, LineFault, Record, check_limits, on_line, read_line};
+use line_format::{
+    self, Fault, LARGEST_BOOK, LAST_LINE_NUMBER, LineFault, Record, check_limits, on_line,
+    read_line,
+};
 use rules::{Call, Delivery};
 use std::alloc::{AllocError, Global};
 use std::mem;
@@ -20,9 +22,6 @@ const METERS: usize = allocation::METERS as usize;
 
 // The places of a book for readings.
 const READING_PLACES: usize = 256;
-
-// No line has a larger number: all later ones share it.
-const LAST_LINE_NUMBER: u64 = 9_999_999_999;
 
 // A record whose turn is over, or has not come.
 const OUT_OF_TURN: Fault = Fault {

@@ -9,14 +9,8 @@ use super::day_line::DayLine;
 use book::{Answer, Book, Lists, OpeningRequest, Unopened};
 use calendar::{date_of_day_number, day_number_of};
 use estimates::ByWeather;
-use line_format::{Fault, Limits, Opening, Record};
+use line_format::{Fault, LARGEST_BOOK, Opening, Record};
 use rules::Call;
-
-// The largest book that lines can open, in days and points. Each book has all of these points.
-pub(crate) const LARGEST_BOOK: Limits = Limits {
-    days: 62,
-    points: 32,
-};
 
 // A book that was opened by a line, and its days.
 #[derive(Drop)]
@@ -36,6 +30,7 @@ impl OpenedBook {
         let request = OpeningRequest {
             first_date: opening.first_date,
             days: count,
+            // Each book has all of these points.
             points: LARGEST_BOOK.points,
             unaccounted: opening.unaccounted,
         };

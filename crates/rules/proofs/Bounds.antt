@@ -8,7 +8,7 @@ use Rattle.std.proofs.ByRecursion.{All-from_get_or, sum_by_le}
 use Rattle.std.proofs.lemmas.List.{get_or_past}
 use Rattle.std.proofs.lemmas.List.Sums.{get_or-le-sum_by, sum-map}
 use Rattle.std.proofs.lemmas.Bool.{and_from, and_parts, cases_lt, cond_both, eqb-false, le-leb, leb-true, lt-ltb, not-false}
-use Rattle.estimators.specs.Limits.{greatest_figure, last_day, last_point}
+use Rattle.estimators.specs.Limits.{last_day, last_point}
 use Rattle.allocation.specs.Loads.{largest_gate}
 use Rattle.allocation.specs.ShareLaws.{sum_shares}
 use Rattle.allocation.specs.SharingLimits.{largest_product}
@@ -26,7 +26,7 @@ use Rattle.rules.specs.Readings.{Holds}
 use Rattle.rules.proofs.AcceptedEntries.{accepted, held_in_book}
 use Rattle.rules.proofs.HeldReadings.{end_to_end, covering_held}
 use Rattle.rules.proofs.Balance.{scaling_only_lowers}
-use Rattle.terms.specs.Limits.{largest_energy}
+use Rattle.terms.specs.Limits.{largest_energy, greatest_figure}
 
 -- a share is at most the whole amount
 pub share_most : (c : ℕ) (ws : List ℕ) (k : ℕ) → 0 < sum ws → get_or (shares c ws) k 0 ≤ c

@@ -11,7 +11,7 @@ use Rattle.rules.proofs.AcceptedEntries.{FitsIn, fits, newly_enrolled}
 use Rattle.rules.proofs.Readings.{among_some, some_among, count_apart, count_some, begun_later, covers_facts, first_among, first_is_some, first_none}
 use Rattle.rules.proofs.EndToEnd.{AtMark, IsTiled, tiled_enrolled, tiled_more, tiled_none, whole}
 use Rattle.rules.specs.Figures.{is_active, has_begun}
-use Rattle.rules.specs.ReadingLaws.{HoldsEndToEnd, IsCoveredByHeld, ReplacesWholes}
+use Rattle.rules.specs.ReadingLaws.{HoldsEndToEnd, LastIsHeld, ReplacesWholes}
 use Rattle.std.proofs.lemmas.List.Sums.{length-filter}
 use Rattle.terms.specs.ReadingType.{is_firm}
 
@@ -169,7 +169,7 @@ module _ (s : Setting) (h : History) (lawful : IsLawful s h) where
   covering_spans p d e r last c = held_covering p e r (covering_held p d r last).0 c
 
   -- the last accepted reading that covers a day is the one held reading that does
-  pub last_covering : IsCoveredByHeld h
+  pub last_covering : LastIsHeld h
   last_covering = record {
     is_held = covering_held;
     held_is_last = held_covering;

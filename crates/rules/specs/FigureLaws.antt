@@ -2,7 +2,7 @@
 use Rattle.std.specs.Prelude.{◌≡◌, ℕ, ◌+◌, ◌-◌, ◌*◌, ◌<◌, ◌≤◌, ◌≢◌, Bool, true, false, List, ◌∷◌, map, is_some, Some, sum, slice_index}
 use Rattle.std.specs.List.{range_with_len}
 use Rattle.std.specs.Option.{unwrap_or}
-use Rattle.estimators.specs.Limits.{greatest_figure, last_day, last_point}
+use Rattle.estimators.specs.Limits.{last_day, last_point}
 use Rattle.allocation.specs.Loads.{largest_gate}
 use Rattle.allocation.specs.Sharing.{can_share, shares}
 use Rattle.rules.specs.Calls.{IsLawful}
@@ -13,7 +13,7 @@ use Rattle.rules.specs.declared.entry.Enrolment.{Enrolment}
 use Rattle.rules.specs.declared.entry.Entry.TheVariants.{Enrolled, GateEntered, IntervalEntered, DegreeDaysEntered, ReadingTaken}
 use Rattle.rules.specs.declared.entry.GateDay.{GateDay}
 use Rattle.rules.specs.declared.entry.Reading.{Reading}
-use Rattle.terms.specs.Limits.{largest_energy, retailers}
+use Rattle.terms.specs.Limits.{largest_energy, retailers, greatest_figure}
 
 -- The account of a day.
 

@@ -26,7 +26,7 @@ abbrev pub EntriesLieInTheBook : Type 0
 EntriesLieInTheBook = (s : Setting) (h : History) (e : Entry) → IsLawful s (e ∷ h) → EntryLiesInBook s (Some e)
 
 -- the last accepted reading that covers a point's day is the one held reading that covers it
-pub record IsCoveredByHeld (h : History) : Type 0 where
+pub record LastIsHeld (h : History) : Type 0 where
   pub is_held : (p d : ℕ) (r : Reading) → covering_reading h p d ≡ Some r → Holds h r × (covers r p d ≡ true)
   pub held_is_last : (p d : ℕ) (r : Reading) → Holds h r → covers r p d ≡ true → covering_reading h p d ≡ Some r
   pub first_held : (p d : ℕ) → covering_reading h p d ≡ find (λ r. covers r p d) (held_readings h)
@@ -38,7 +38,7 @@ pub record IsCoveredByHeld (h : History) : Type 0 where
 
 -- so it is in every history of a book
 abbrev pub LastCoveringIsHeld : Type 0
-LastCoveringIsHeld = (s : Setting) (h : History) → IsLawful s h → IsCoveredByHeld h
+LastCoveringIsHeld = (s : Setting) (h : History) → IsLawful s h → LastIsHeld h
 
 -- the held readings of a point lie end to end from its start day to its last mark
 pub record HoldsEndToEnd (h : History) : Type 0 where

@@ -47,7 +47,7 @@ delivery point start end energy type = EnterReading (record {
   reading_type = type;
 })
 
--- the history is one of a book, and each further call is refused as it should be
+-- the history is one of a book, and further calls are refused or accepted as they should be
 pub record WorkedReadings : Type 0 where
   -- the book can have this history: each entry is that of an accepted call
   pub lawful : IsLawful three_days one_metered
@@ -58,6 +58,7 @@ pub record WorkedReadings : Type 0 where
   pub start_is_no_mark : refusal three_days one_metered (delivery 1 20240702 20240703 (pos 5) Actual) ≡ Some 9
   pub end_at_start : refusal three_days one_metered (delivery 1 20240701 20240701 (pos 5) Actual) ≡ Some 10
   pub end_inside : refusal three_days one_metered (delivery 1 20240701 20240702 (pos 5) Actual) ≡ Some 10
+  -- before the gate days came
   pub before_the_gate : refusal three_days one_enrolled (delivery 1 20240701 20240703 (pos 200) Actual) ≡ Some 11
   pub soft_over_firm : refusal three_days one_metered (delivery 1 20240701 20240703 (pos 5) Estimated) ≡ Some 12
   pub no_place : refusal three_days one_metered (delivery 1 20240703 20240704 (pos 5) Actual) ≡ Some 13

@@ -48,7 +48,8 @@ impl Sheet {
         self.settle_days(sources, joined);
     }
 
-    /// Takes in a new reading: its days show its shares, and are settled. Outside the sheet nothing changes.
+    /// Takes in a new reading: its days show its shares, and are settled. Where the reading lies outside the
+    /// sheet, or has more energy than a reading may have, nothing changes.
     pub fn take_reading<E: Estimator>(&mut self, sources: &Sources<'_, E>, reading: &Reading)
         ensures { TakesEntry (ReadingTaken reading.now)
             sources.now.ledger.now (E.Estimator.meaning sources.now.estimator.now) self.old self.new }

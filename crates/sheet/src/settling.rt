@@ -3,7 +3,7 @@
 ghost use Rattle.std.specs.Prelude.{◌≡◌, ◌+◌, ◌-◌, ◌^◌, ◌<◌, ◌≤◌, ℕ, min, true, length, is_some, IfSome, if◌then◌else◌, sum, nat_lt, slice_index};
 ghost use Rattle.std.specs.Option.{unwrap_or};
 ghost use Rattle.allocation.specs.Loads.{largest_gate};
-ghost use Rattle.estimators.specs.Limits.{greatest_figure, last_point};
+ghost use Rattle.estimators.specs.Limits.{last_point};
 ghost use Rattle.rules.specs.Figures as law;
 ghost use Rattle.rules.specs.History.{History, Setting, covering_reading};
 ghost use Rattle.ledger.specs.declared.ledger.Ledger.{Ledger};
@@ -12,6 +12,7 @@ ghost use Rattle.sheet.specs.Sheet as sheets;
 ghost use Rattle.sheet.specs.Sheet.{ChangesOnlyDays, ChangesOnlyNotes, IsDayOfSheet, IsInSheet, SetsNote, stands_by_note};
 ghost use Rattle.sheet.specs.SheetOfHistory.{ForKnown, ForKnownOn, IsReadyToSettle, IsSettled, MeansEstimates, ShowsDay, ShowsSupplied};
 ghost use Rattle.sheet.specs.declared.sheet.DayNote.TheVariants.{NothingKnown, NothingLeft};
+ghost use Rattle.terms.specs.Limits.{greatest_figure};
 
 use super::day_range::DayRange;
 use super::sheet::{DayNote, PointStatus, Sheet};

@@ -1,4 +1,5 @@
 // The book of July 2024, and what it is told.
+use allocation::METERS;
 use book::{Answer, Book, Lists, OpeningRequest};
 use estimates::{ByWeather, Factors};
 use rules::Call;
@@ -17,8 +18,7 @@ const POINTS: usize = 4;
 // 2.5 percent, in ten-thousandths.
 const UNACCOUNTED: u64 = 250;
 
-// The ledger's number, which it keeps to itself.
-const INTERVAL_METERS: usize = 32;
+const INTERVAL_METERS: usize = METERS as usize;
 
 const READING_PLACES: usize = 8;
 

@@ -51,7 +51,7 @@ impl fmt::Display for DateShown {
     }
 }
 
-// The span that is settlement.
+// The span that is settled.
 pub(crate) fn print_span(rt: &HostRuntime, span: Span) -> io::Result<()> {
     let first = DateShown(span.first);
     let last = DateShown(span.last);

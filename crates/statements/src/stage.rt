@@ -43,7 +43,9 @@ pub struct Stage<K> {
 /// Why the next stage was not drawn, and the stage as it was, which may not be forgotten.
 #[derive(Debug)]
 pub struct Undrawn<K> {
+    /// The reason.
     pub refusal: Refusal,
+    /// The stage, the very one that was given.
     pub stage: Stage<K>,
 }
 

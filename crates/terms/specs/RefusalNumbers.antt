@@ -37,7 +37,8 @@ point_enrolled_already = 8
 abbrev pub start_is_no_mark : ℕ
 start_is_no_mark = 9
 
--- a reading ends neither at a mark of its point nor later than all its marks
+-- a reading does not end after its start, or neither at a mark of its point nor later than all its marks; or a span
+-- ends before it starts
 abbrev pub end_not_allowed : ℕ
 end_not_allowed = 10
 

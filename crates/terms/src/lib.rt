@@ -10,7 +10,7 @@ mod refusal;
 mod rounding;
 
 pub use layer::Layer;
-pub use limits::{LARGEST_ENERGY, RETAILERS};
+pub use limits::{GREATEST_FIGURE, LARGEST_ENERGY, RETAILERS};
 pub use reading_type::{ReadingType, UnknownLetter};
 pub use refusal::Refusal;
 pub use rounding::nearest_quotient;

@@ -37,7 +37,7 @@ pub enum Refusal {
     StartIsNoMark,
     /// 10: a reading does not end after its start, or neither at a mark of its point nor later than all its marks; a
     /// span ends before it starts.
-    #[error("the reading ends neither at a mark of its point nor later than all its marks")]
+    #[error("the reading or the span ends where it may not")]
     EndNotAllowed,
     /// 11: the date of the first day that the reading covers and that has no load.
     #[error("a day that the reading covers has no load")]

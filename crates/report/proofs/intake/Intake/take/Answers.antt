@@ -2,7 +2,8 @@ use Rattle.std.proofs.Common.{◌≡◌, ◌+◌, min, ap, ◌∙◌, arith}
 use Rattle.std.specs.Option.{option_map}
 use Rattle.report.proofs.LineEntryLemmas.{fail_placed}
 use Rattle.report.proofs.intake.Intake.take.Goals as goal
-use Rattle.report.specs.LineContent.{last_line_number, reported_answer, reported_refusal}
+use Rattle.report.specs.LineContent.{reported_answer, reported_refusal}
+use Rattle.line_format.specs.Fault.{last_line_number}
 
 pub returns-clause-law : goal.returns-clause-law
 returns-clause-law c = λ k t stands.
