@@ -41,22 +41,22 @@ pub(crate) fn print_sheet(rt: &HostRuntime, figures: &[u64]) -> io::Result<()> {
 
 // The account of a day and both retailers' sums.
 #[derive(Clone, Copy, PartialEq, Eq, Debug)]
-struct Account {
-    figures: Account,
+struct DayAccount {
+    account: Account,
     northern: u64,
     southern: u64,
 }
 
 // The account that the answers about a day give.
-fn account_in(answers: &[Result<Answer, Refusal>]) -> Option<Account> {
+fn account_in(answers: &[Result<Answer, Refusal>]) -> Option<DayAccount> {
     match answers {
         [
-            Ok(Answer::Day(figures)),
+            Ok(Answer::Day(account)),
             Ok(Answer::RetailerSum(northern)),
             Ok(Answer::RetailerSum(southern)),
         ] => {
-            Some(Account {
-                figures: *figures,
+            Some(DayAccount {
+                account: *account,
                 northern: *northern,
                 southern: *southern,
             })
@@ -74,14 +74,14 @@ pub(crate) fn print_days(rt: &HostRuntime, answers: &[Result<Answer, Refusal>]) 
     )?;
     for (date, asked) in (FIRST..=LAST).zip(answers.chunks_exact(QUESTIONS)) {
         match account_in(asked) {
-            Some(account) => print_account(rt, DateShown(date), account)?,
+            Some(day) => print_account(rt, DateShown(date), day)?,
             None => println!(rt; "{}  no account", DateShown(date))?,
         }
     }
     Ok(())
 }
 
-fn print_account(rt: &HostRuntime, day: DateShown, account: Account) -> io::Result<()> {
+fn print_account(rt: &HostRuntime, date: DateShown, day: DayAccount) -> io::Result<()> {
     let Account {
         load,
         supplied,
@@ -89,10 +89,10 @@ fn print_account(rt: &HostRuntime, day: DateShown, account: Account) -> io::Resu
         remainder,
         excess,
         missing,
-    } = account.figures;
-    let northern = account.northern;
-    let southern = account.southern;
+    } = day.account;
+    let northern = day.northern;
+    let southern = day.southern;
     println!(rt;
-        "{day} {load:>9} {supplied:>9} {generated:>10} {remainder:>10} {excess:>7} {missing:>8} {northern:>11} {southern:>11}"
+        "{date} {load:>9} {supplied:>9} {generated:>10} {remainder:>10} {excess:>7} {missing:>8} {northern:>11} {southern:>11}"
     )
 }

@@ -14,15 +14,15 @@ use terms::Refusal;
 
 /// Marks the first stage of a span's settlement.
 #[derive(Debug)]
-pub enum Preliminary {}
+pub struct Preliminary;
 
 /// Marks the second stage, which stands until it is revised.
 #[derive(Debug)]
-pub enum Final {}
+pub struct Final;
 
 /// Marks a third or later stage, which can be revised once more.
 #[derive(Debug)]
-pub enum Revised {}
+pub struct Revised;
 
 /// The stages that can be revised: a final one, and one that was revised already.
 pub trait Revisable {}
