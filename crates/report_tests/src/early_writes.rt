@@ -1,4 +1,7 @@
-// What was reported leaves before each wait for more input.
+// What was reported leaves before each wait for more input, and before the answer.
+use super::inputs::filled;
+use super::reported_inputs::TWO_DAYS;
+use super::writers::Withholds;
 use report::report;
 use std::cell::Cell;
 use std::io;
@@ -60,5 +63,21 @@ fn refusals_leave_before_each_read(rt: HostRuntime) -> Result<(), Fail> {
     report(rt.alloc(), &mut input, &mut output)?;
     assert_eq!(rt; late.get(), 0);
     assert_eq!(rt; arrived.get(), 20 * REFUSAL_LENGTH);
+    Ok(())
+}
+
+// Where the answer is good, the lines of the days are not in a buffer any more.
+#[test]
+fn days_leave_before_the_answer(rt: HostRuntime) -> Result<(), Fail> {
+    let heap = rt.alloc();
+    let input = filled(heap, TWO_DAYS.lines)?;
+    let wanted = TWO_DAYS.report(heap)?;
+    let mut output = Withholds::new(heap, None);
+    report(heap, &mut input.as_slice(), &mut output)?;
+    assert_eq!(rt; output.arrived.as_slice(), wanted.as_bytes());
+    let arrived = Cell::new(0);
+    let mut buffered = BufWriter::new(heap, Counts { arrived: &arrived })?;
+    report(heap, &mut input.as_slice(), &mut buffered)?;
+    assert_eq!(rt; arrived.get(), wanted.len());
     Ok(())
 }

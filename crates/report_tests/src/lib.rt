@@ -1,5 +1,5 @@
 //! Tests of the way from the bytes of an input to the bytes of its report, which `report` proves: the shape of each
-//! line, each refusal with its column, and readers and writers that fail, wait or give little.
+//! line, each refusal with its column, and readers and writers that fail, wait, or give and take little or much.
 #![tactic(auto)]
 
 #[cfg(test)]
@@ -18,6 +18,8 @@ mod lengths;
 mod limits;
 #[cfg(test)]
 mod malformed;
+#[cfg(test)]
+mod many_pieces;
 #[cfg(test)]
 mod noise;
 #[cfg(test)]

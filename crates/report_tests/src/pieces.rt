@@ -99,7 +99,7 @@ fn line_without_an_end(rt: HostRuntime) -> Result<(), Fail> {
 fn sample(rt: HostRuntime) -> Result<(), Fail> {
     let input = filled(rt.alloc(), TWO_DAYS.lines)?;
     let text = report_of(rt.alloc(), input.as_slice())?;
-    let wanted = format!(in rt.alloc(); "{}{}", TWO_DAYS.refusals, TWO_DAYS.days)?;
+    let wanted = TWO_DAYS.report(rt.alloc())?;
     assert_eq!(rt; text.as_slice(), wanted.as_bytes());
     Ok(())
 }

@@ -1,4 +1,5 @@
 // Inputs that a line is added to, with their reports.
+use std::alloc::{AllocError, Global};
 
 // Lines, and what is reported of them.
 #[derive(Clone, Copy)]
@@ -6,6 +7,13 @@ pub(crate) struct ReportedInput {
     pub(crate) lines: &'static str,
     pub(crate) refusals: &'static str,
     pub(crate) days: &'static str,
+}
+
+impl ReportedInput {
+    // All that is reported of the lines by themselves.
+    pub(crate) fn report(&self, heap: Global) -> Result<String, AllocError> {
+        format!(in heap; "{}{}", self.refusals, self.days)
+    }
 }
 
 // Nothing at all.
