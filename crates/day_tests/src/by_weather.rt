@@ -1,8 +1,10 @@
-// Estimates by weather at the edges of their limits.
+// Estimates by weather at the edges of their limits, and with factors and counts in every order.
 use super::checks::{check_figures, check_figures_under, check_refused, check_weather_refused};
+use super::orders::{ORDERS, in_order};
 use estimates::{ByWeather, Factors};
 use estimators::Weather;
 use std::test::Fail;
+use terms::Refusal;
 
 pub(crate) const HOUSE: Factors = Factors {
     base_load: 12_500,
@@ -110,4 +112,92 @@ fn no_sensitivity_still_wants_weather() -> Result<(), Fail> {
     check_figures(&weather, &[(1, 1, None)])?;
     weather.enter(1, 0)?;
     check_figures(&weather, &[(1, 1, Some(30))])
+}
+
+// What is entered for a point or for a day.
+#[derive(Clone, Copy)]
+enum Entry {
+    Factors(u32, Factors),
+    Count(u32, u32),
+}
+
+const ENTRIES: [Entry; 4] = [
+    Entry::Factors(1, HOUSE),
+    Entry::Factors(256, LARGEST),
+    Entry::Count(1, 1_094),
+    Entry::Count(400, 20_000),
+];
+
+impl Entry {
+    fn enter_into(self, weather: &mut ByWeather) -> Result<(), Refusal> {
+        match self {
+            Entry::Factors(point, factors) => weather.enter_factors(point, factors),
+            Entry::Count(place, count) => weather.enter(place, count),
+        }
+    }
+}
+
+// Counts before any factors, factors before any count, and every order between.
+#[test]
+fn factors_and_counts_in_every_order() -> Result<(), Fail> {
+    for order in 0..ORDERS {
+        let mut weather = ByWeather::new();
+        for entry in in_order(ENTRIES, order) {
+            entry.enter_into(&mut weather)?;
+        }
+        check_figures(
+            &weather,
+            &[
+                // (100 x 12,500 + 3,000 x 1,094 + 50,000) / 100,000 = 45.82
+                (1, 1, Some(45)),
+                // (100 x 12,500 + 3,000 x 20,000 + 50,000) / 100,000 = 613
+                (1, 400, Some(613)),
+                // (100 x 100,000,000 + 1,000,000 x 1,094 + 50,000) / 100,000 = 110,940.5
+                (256, 1, Some(110_940)),
+                // (100 x 100,000,000 + 1,000,000 x 20,000 + 50,000) / 100,000 = 300,000.5
+                (256, 400, Some(300_000)),
+                // No factors, and no count.
+                (2, 1, None),
+                (1, 2, None),
+            ],
+        )?;
+    }
+    Ok(())
+}
+
+// Days with a count have figures by the factors that come, and by those that replace them.
+#[test]
+fn factors_replaced_after_counts() -> Result<(), Fail> {
+    let mut weather = ByWeather::new();
+    weather.enter(1, 1_094)?;
+    weather.enter(2, 0)?;
+    // No factors.
+    check_figures(&weather, &[(1, 1, None), (1, 2, None)])?;
+    weather.enter_factors(1, HOUSE)?;
+    check_figures(
+        &weather,
+        &[
+            // (100 x 12,500 + 3,000 x 1,094 + 50,000) / 100,000 = 45.82
+            (1, 1, Some(45)),
+            // (100 x 12,500 + 3,000 x 0 + 50,000) / 100,000 = 13
+            (1, 2, Some(13)),
+        ],
+    )?;
+    let larger = Factors {
+        base_load: 20_000,
+        sensitivity: 5_000,
+    };
+    weather.enter_factors(1, larger)?;
+    weather.enter(3, 1_000)?;
+    check_figures(
+        &weather,
+        &[
+            // (100 x 20,000 + 5,000 x 1,094 + 50,000) / 100,000 = 75.2
+            (1, 1, Some(75)),
+            // (100 x 20,000 + 5,000 x 0 + 50,000) / 100,000 = 20.5
+            (1, 2, Some(20)),
+            // (100 x 20,000 + 5,000 x 1,000 + 50,000) / 100,000 = 70.5
+            (1, 3, Some(70)),
+        ],
+    )
 }

@@ -1,4 +1,4 @@
-// Estimates by hot water at the edges of their limits.
+// Estimates by hot water at the edges of their limits, and with weather entered first.
 use super::checks::{check_figures, check_figures_under, check_refused, check_weather_refused};
 use estimates::{HotWater, Usage};
 use estimators::Weather;
@@ -9,6 +9,14 @@ pub(crate) const FLAT: Usage = Usage {
     litres: 9_000,
     days: 90,
     read_in: 9,
+    heat: 400,
+};
+
+// Of a half in the warm season, and a quarter between.
+const WITH_HALVES: Usage = Usage {
+    litres: 3_000,
+    days: 80,
+    read_in: 10,
     heat: 400,
 };
 
@@ -158,4 +166,51 @@ fn usage_at_its_limits() -> Result<(), Fail> {
     };
     hot_water.enter_usage(1, least)?;
     check_figures(&hot_water, &[(1, 1, Some(0))])
+}
+
+// Counts for 31 May, 1 June and 1 August 2024 and 4 July 2025.
+fn enter_counts(hot_water: &mut HotWater) -> Result<(), Fail> {
+    for (place, count) in [(1, 0), (2, 1_094), (63, 20_000), (400, 1)] {
+        hot_water.enter(place, count)?;
+    }
+    check_weather_refused(hot_water, &[(0, 0), (401, 0), (1, 20_001)])
+}
+
+// The figures of point 1 on these days. Read in September, p is 3.
+const FLAT_FIGURES: [(u32, u32, Option<u64>); 4] = [
+    // 9,000 x 400 x 3 x 2 / (12,000 x 90) = 20
+    (1, 1, Some(20)),
+    // 9,000 x 400 x 3 x 3 / (12,000 x 90) = 30
+    (1, 2, Some(30)),
+    // 9,000 x 400 x 3 x 4 / (12,000 x 90) = 40
+    (1, 63, Some(40)),
+    // 9,000 x 400 x 3 x 3 / (12,000 x 90) = 30
+    (1, 400, Some(30)),
+];
+
+// The figures of point 2 on these days. Read in October, p is 3.
+const FIGURES_WITH_HALVES: [(u32, u32, Option<u64>); 4] = [
+    // 3,000 x 400 x 3 x 2 / (12,000 x 80) = 7.5
+    (2, 1, Some(8)),
+    // 3,000 x 400 x 3 x 3 / (12,000 x 80) = 11.25
+    (2, 2, Some(11)),
+    // 3,000 x 400 x 3 x 4 / (12,000 x 80) = 15
+    (2, 63, Some(15)),
+    // 3,000 x 400 x 3 x 3 / (12,000 x 80) = 11.25
+    (2, 400, Some(11)),
+];
+
+// Weather leaves the first day as it was, and all hot water that was entered before or is entered later.
+#[test]
+fn usage_entered_after_weather() -> Result<(), Fail> {
+    let mut hot_water = HotWater::new(20240531)?;
+    enter_counts(&mut hot_water)?;
+    // No hot water.
+    check_figures(&hot_water, &[(1, 1, None), (2, 63, None)])?;
+    hot_water.enter_usage(1, FLAT)?;
+    check_figures(&hot_water, &FLAT_FIGURES)?;
+    enter_counts(&mut hot_water)?;
+    hot_water.enter_usage(2, WITH_HALVES)?;
+    check_figures(&hot_water, &FLAT_FIGURES)?;
+    check_figures(&hot_water, &FIGURES_WITH_HALVES)
 }

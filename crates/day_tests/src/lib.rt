@@ -14,3 +14,5 @@ mod degree_days;
 mod hot_water;
 #[cfg(test)]
 mod layers;
+#[cfg(test)]
+mod orders;
