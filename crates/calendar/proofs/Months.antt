@@ -1,9 +1,7 @@
 -- The days of the months and the days before them. Assumes nothing.
-use Rattle.std.proofs.Common.{◌≡◌, ℕ, zero, suc, ◌+◌, ◌-◌, ◌<◌, ◌≤◌, Bool, true, false, cond, ◌&&◌, eqb, leb, List, [], ◌∷◌, get_or, map, take, sum, sym, refl, ap, subst, ◌∙◌, arith}
+use Rattle.std.proofs.Common.{◌≡◌, ℕ, zero, suc, ◌+◌, ◌-◌, ◌*◌, ◌<◌, ◌≤◌, Bool, true, false, cond, ◌&&◌, eqb, leb, ltb, List, [], ◌∷◌, get_or, take, sum, sym, refl, ◌∙◌, arith}
 use Rattle.std.proofs.lemmas.List.Sums.{sum_by_more, sum_by-take-le}
-use Rattle.std.proofs.lemmas.List.FromFn.{sum_by-map-range_with_len_more}
 use Rattle.std.proofs.lemmas.List.{take-take}
-use Rattle.std.specs.List.{range_with_len}
 use Rattle.std.proofs.lemmas.Bool.{eqb-true, leb-true}
 use Rattle.std.proofs.lemmas.Bool.Decides.{Decides-below_and}
 use Rattle.calendar.specs.Gregorian.{is_leap, month_lengths_by, month_lengths, month_length, days_before_month, year_length}
@@ -25,6 +23,10 @@ passes_both f n in_leap in_other false k h = passes_below (f false) n in_other k
 -- the days of the months where it is no leap year
 abbrev pub plain_lengths : List ℕ
 plain_lengths = 31 ∷ 28 ∷ 31 ∷ 30 ∷ 31 ∷ 30 ∷ 31 ∷ 31 ∷ 30 ∷ 31 ∷ 30 ∷ 31 ∷ []
+
+-- the days before each of those months
+abbrev pub plain_sums : List ℕ
+plain_sums = 0 ∷ 31 ∷ 59 ∷ 90 ∷ 120 ∷ 151 ∷ 181 ∷ 212 ∷ 243 ∷ 273 ∷ 304 ∷ 334 ∷ []
 
 lengths_at : (b : Bool) (k : ℕ) → k < 12 → get_or (month_lengths_by b) k 0 ≡ get_or plain_lengths k 0 + cond (eqb k 1 && b) 1 0
 lengths_at b k h =
@@ -49,6 +51,35 @@ pub month_length_is : (y m : ℕ) → 1 ≤ m → m ≤ 12 → month_length y m 
 unfolding month_length month_lengths
 month_length_is y m low high = lengths_at (is_leap y) (m - 1) (omega arith)
 
+pub plain_sums_at_most : (k : ℕ) → k < 12 → get_or plain_sums k 0 ≤ 334
+plain_sums_at_most k h =
+    leb-true (get_or plain_sums k 0) 334 (passes_below (λ k. leb (get_or plain_sums k 0) 334) 12 refl k h)
+
+sums_at : (b : Bool) (k : ℕ) → k < 12 → sum (take k (month_lengths_by b)) ≡ get_or plain_sums k 0 + cond (ltb 1 k && b) 1 0
+sums_at b k h =
+    eqb-true (sum (take k (month_lengths_by b))) (get_or plain_sums k 0 + cond (ltb 1 k && b) 1 0)
+    (passes_both (λ b k. eqb (sum (take k (month_lengths_by b))) (get_or plain_sums k 0 + cond (ltb 1 k && b) 1 0)) 12 refl refl b k h)
+
+-- the days before a month, by the table and the leap day
+pub days_before_month_is : (y m : ℕ) → 1 ≤ m → m ≤ 12 → days_before_month y m ≡ get_or plain_sums (m - 1) 0 + cond (ltb 1 (m - 1) && is_leap y) 1 0
+unfolding days_before_month month_lengths
+days_before_month_is y m low high = sums_at (is_leap y) (m - 1) (omega arith)
+
+-- the months before a month have 31 days each at most
+pub days_before_month_at_most : (y m : ℕ) → 1 ≤ m → m ≤ 12 → days_before_month y m ≤ 31 * (m - 1)
+unfolding days_before_month month_lengths
+days_before_month_at_most y m low high =
+    leb-true (sum (take (m - 1) (month_lengths_by (is_leap y)))) (31 * (m - 1))
+    (passes_both (λ b k. leb (sum (take k (month_lengths_by b))) (31 * k)) 12 refl refl (is_leap y) (m - 1) (omega arith))
+
+-- the first k + 2 months have at least what k + 1 months of 31 days would have
+pub days_before_month_at_least : (y k : ℕ) → k < 11 → 31 * (k + 1) ≤ days_before_month y (k + 1 + 1 + 1)
+unfolding days_before_month month_lengths
+days_before_month_at_least y k h =
+    let months : k + 1 + 1 + 1 - 1 ≡ k + 2 = omega arith in
+    rw months (leb-true (31 * (k + 1)) (sum (take (k + 2) (month_lengths_by (is_leap y))))
+    (passes_both (λ b k. leb (31 * (k + 1)) (sum (take (k + 2) (month_lengths_by b)))) 11 refl refl (is_leap y) k h))
+
 -- the days before a month, and that month's own, are the days before the next
 pub days_before_next_month : (y m : ℕ) → 1 ≤ m → m ≤ 12 → days_before_month y (m + 1) ≡ days_before_month y m + month_length y m
 unfolding days_before_month month_length month_lengths
@@ -66,22 +97,6 @@ pub days_before_all_months : (y : ℕ) → days_before_month y 13 ≡ year_lengt
 unfolding days_before_month year_length month_lengths
 days_before_all_months y = refl
 
--- the months before a month, summed up
-pub sum_of_months : (y k : ℕ) → k ≤ 11 → sum (map (month_length y) (range_with_len 1 k)) ≡ days_before_month y (k + 1)
-sum_of_months y zero h = sym (days_before_january y)
-sum_of_months y (suc k) h =
-    let before = sum_of_months y k (omega arith) in
-    let more = sum_by-map-range_with_len_more (λ x. x) (month_length y) 1 k (k + 1) (omega arith) in
-    let next = days_before_next_month y (k + 1) (omega arith) (omega arith) in
-    let one_more : k + 1 ≡ suc k = omega arith in
-    subst (λ (n : ℕ). sum (map (month_length y) (range_with_len 1 n)) ≡ days_before_month y (n + 1)) one_more
-    (more ∙ ap (λ n. n + month_length y (k + 1)) before ∙ sym next)
-
-pub months_before : (y m : ℕ) → 1 ≤ m → m ≤ 12 → sum (map (month_length y) (range_with_len 1 (m - 1))) ≡ days_before_month y m
-months_before y m low high =
-    let back : m - 1 + 1 ≡ m = omega arith in
-    rw back at (sum_of_months y (m - 1) (omega arith))
-
 -- a year has 366 days at most
 pub year_length_short : (y : ℕ) → year_length y ≤ 366
 unfolding year_length month_lengths
@@ -93,11 +108,6 @@ unfolding days_before_month
 days_before_month_grows y m n h =
     let within : m - 1 ≤ n - 1 = omega arith in
     rw (take-take (m - 1) (n - 1) (month_lengths y) within) at (sum_by-take-le (λ x. x) (take (n - 1) (month_lengths y)) (m - 1))
-
--- so are those of the months before one
-pub months_before_short : (y m : ℕ) → 1 ≤ m → m ≤ 12 → sum (map (month_length y) (range_with_len 1 (m - 1))) ≤ 366
-months_before_short y m low high =
-    omega (arith, months_before y m low high, days_before_month_grows y m 13 (omega arith), days_before_all_months y, year_length_short y)
 
 -- the year ends with December
 pub december_ends : (y m : ℕ) → m ≡ 12 → days_before_month y m + month_length y m ≡ year_length y

@@ -1,10 +1,14 @@
 -- The date after a date has the next number, so that day after day every number below the last is reached. Assumes nothing.
-use Rattle.std.proofs.Common.{◌≡◌, ℕ, zero, suc, ◌+◌, ◌<◌, ◌≤◌, cond, T, ltb, sym, refl, ap, ◌∙◌, arith}
+use Rattle.std.proofs.Common.{◌≡◌, ℕ, zero, suc, ◌+◌, ◌<◌, ◌≤◌, cond, T, ltb, Result, sym, refl, ap, ◌∙◌, arith}
 use Rattle.std.proofs.lemmas.Bool.{cond_both, ltb-true, ltb-false}
+use Rattle.terms.specs.Answers.{Answers, AnswersBy}
+use Rattle.terms.specs.RefusalNumbers.{no_such_date}
+use Rattle.terms.specs.declared.refusal.Refusal.{Refusal}
 use Rattle.calendar.specs.Gregorian.{is_leap, month_lengths, month_length, day_exists, days_before_month, days_before_year, day_number, days_in_all}
 use Rattle.calendar.specs.Digits.{is_date, day_number_of, date_after, date_of_day_number, digits, HasDayNumber}
 use Rattle.calendar.specs.Date.{digits_of, date_day_number}
 use Rattle.calendar.specs.declared.date.Date.{Date}
+use Rattle.calendar.proofs.DateAnswers.{weakened}
 use Rattle.calendar.proofs.Days.{dated, day_exists_from}
 use Rattle.calendar.proofs.Months.{month_length_at_least, days_before_next_month, days_before_january, december_ends}
 use Rattle.calendar.proofs.Order.{same_day_number, day_number_below}
@@ -76,3 +80,8 @@ day_number_leads_back n real =
 -- no other date has that number
 pub only_date_of_day_number : (n k : ℕ) → HasDayNumber n k → n ≡ date_of_day_number k
 only_date_of_day_number n k here = sym (day_number_leads_back n here.0) ∙ ap date_of_day_number here.1
+
+-- so a call that answers by a date of that number answers by that one
+pub answers_date_of_day_number : (r : Result ℕ Refusal) (k : ℕ) → AnswersBy r (ltb k days_in_all) (λ n. HasDayNumber n k) no_such_date → Answers r (ltb k days_in_all) (date_of_day_number k) no_such_date
+answers_date_of_day_number r k =
+    weakened r (ltb k days_in_all) (λ n. HasDayNumber n k) (λ n. n ≡ date_of_day_number k) no_such_date (λ n. only_date_of_day_number n k)

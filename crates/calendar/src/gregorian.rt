@@ -13,8 +13,10 @@ pub(crate) const DAYS_IN_YEAR: u32 = 365;
 // The days of four years, of which the last is a leap year.
 pub(crate) const DAYS_IN_FOUR_YEARS: u32 = 1461;
 
-// The days of each month of such a year.
+// The days of each month of such a year, and the days before each.
 const MONTH_LENGTHS: [u32; 12] = [31, 28, 31, 30, 31, 30, 31, 31, 30, 31, 30, 31];
+
+const DAYS_BEFORE_MONTH: [u32; 12] = [0, 31, 59, 90, 120, 151, 181, 212, 243, 273, 304, 334];
 
 // Whether a year has a 29 February.
 pub(crate) fn is_leap(year: u32) -> bool
@@ -46,7 +48,7 @@ pub(crate) fn days_before_month(year: u32, month: u32) -> u32
     requires { (1 ≤ month) × (month ≤ 12) }
     ensures { result ≡ days_before_month year month }
 {
-    (1..month).map(|month| month_length(year, month)).sum()
+    DAYS_BEFORE_MONTH[month as usize - 1] + u32::from(month > 2 && is_leap(year))
 }
 
 // The days from 1 January 2001 to a year's first. Every fourth year among them is a leap year, as 2100 is not reached.
@@ -66,7 +68,11 @@ pub(crate) fn month_at(year: u32, days: u32) -> u32
     ensures begins { days_before_month year result ≤ days }
     ensures ends_later { days < days_before_month year (result + 1) }
 {
-    (1..12)
-        .find(|month| days < days_before_month(year, *month + 1))
-        .unwrap_or(12)
+    // A month has 31 days at most, and all before December together lack seven of that: it is this month or the next.
+    let month = days / 31 + 1;
+    if month < 12 && days_before_month(year, month + 1) <= days {
+        month + 1
+    } else {
+        month
+    }
 }
