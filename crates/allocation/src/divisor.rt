@@ -4,6 +4,9 @@ ghost use Rattle.allocation.specs.Divisor.{is_reciprocal};
 // Of numbers below this a reciprocal gives the exact quotient; it is made for divisors up to half of it.
 const RECIPROCAL_LIMIT: u64 = 1 << 32;
 
+// To make a reciprocal takes a division, which pays where more numbers than these are divided.
+const FEW_NUMBERS: usize = 2;
+
 // A divisor of many numbers. Most are divided by one multiplication with its reciprocal, which takes a fraction of a
 // division's time.
 #[derive(Clone, Copy)]
@@ -15,11 +18,11 @@ pub(crate) struct Divisor {
 }
 
 impl Divisor {
-    // The divisor of this number.
-    pub(crate) fn new(by: u64) -> Divisor
+    // The divisor `by` of so many numbers.
+    pub(crate) fn new(by: u64, numbers: usize) -> Divisor
         ensures { result.by ≡ by }
     {
-        let reciprocal = if (2..=RECIPROCAL_LIMIT / 2).contains(&by) {
+        let reciprocal = if numbers > FEW_NUMBERS && (2..=RECIPROCAL_LIMIT / 2).contains(&by) {
             u64::MAX / by + 1
         } else {
             0
