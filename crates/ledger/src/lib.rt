@@ -16,3 +16,4 @@ mod readings;
 
 pub use ledger::{Ledger, Lists};
 pub use opening::{Opening, OpeningRequest, Unopened, clear_front, judge_opening};
+pub use places::{free_replaced, replaces, take_place};

@@ -7,8 +7,8 @@ ghost use Rattle.ledger.specs.Places.{EachTestOf, TakesPlace, freed_place, holds
 
 use rules::Reading;
 
-// Whether a new reading covers a day of an old one of its point, and so replaces it.
-pub(crate) fn replaces(new: &Reading, old: &Reading) -> bool
+/// Whether a new reading covers a day of an old one of its point, and so replaces it.
+pub fn replaces(new: &Reading, old: &Reading) -> bool
     ensures { result ≡ held.replaces new.now old.now }
 {
     new.point == old.point && new.start < old.end && old.start < new.end
@@ -50,8 +50,8 @@ fn free_where_replaced(place: &mut Option<Reading>, new: &Reading)
     }
 }
 
-// Frees the places of the readings that a new one replaces.
-pub(crate) fn free_replaced(places: &mut [Option<Reading>], new: &Reading)
+/// Frees the places of the readings that a new one replaces. The others stay.
+pub fn free_replaced(places: &mut [Option<Reading>], new: &Reading)
     ensures { places.new ≡ map (freed_place new.now) places.old }
 {
     for place in places.iter_mut() {
@@ -59,9 +59,8 @@ pub(crate) fn free_replaced(places: &mut [Option<Reading>], new: &Reading)
     }
 }
 
-// Puts a reading into the first free place. Where no place is free the reading comes back, and the
-// places stay.
-pub(crate) fn take_place(places: &mut [Option<Reading>], reading: Reading) -> Result<(), Reading>
+/// Puts a reading into the first free place. Where no place is free the reading comes back, and the places stay.
+pub fn take_place(places: &mut [Option<Reading>], reading: Reading) -> Result<(), Reading>
     ensures free { is_ok result
         ≡ nat_lt (count_by (λ place. is_some place) places.old) (length places.old) }
     ensures taken { OnOk result (TakesPlace reading places.old places.new) }

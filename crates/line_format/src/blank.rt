@@ -5,9 +5,9 @@ use super::field_text::FieldText;
 use super::field_value::FieldValue;
 use super::signed_digits::SignedDigits;
 
-// What stands in an unused field: ten spaces.
+/// What stands in an unused field: ten spaces.
 #[derive(Clone, Copy, PartialEq, Eq, Debug)]
-pub(crate) struct Blank;
+pub struct Blank;
 
 // The text of an unused field.
 const NO_DIGITS: SignedDigits = SignedDigits {

@@ -8,9 +8,9 @@ use super::signed_digits::SignedDigits;
 // The largest number of eight digits.
 const LARGEST_DATE: u32 = 99_999_999;
 
-// The eight digits of a date, a number like 20240701, whether or not there is such a date.
+/// The eight digits of a date, a number like 20240701, whether or not there is such a date.
 #[derive(Clone, Copy, PartialEq, Eq, Debug)]
-pub(crate) struct EightDigits(pub(crate) u32);
+pub struct EightDigits(pub u32);
 
 impl FieldValue for EightDigits {
     ghost kind = { date };

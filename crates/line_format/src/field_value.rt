@@ -16,25 +16,28 @@ const LEAST_SIGNED: i64 = -999_999_999;
 
 const LARGEST_SIGNED: i64 = 9_999_999_999;
 
-// What may stand in a field of ten columns: it is read from the field's text, and written as one.
-pub(crate) trait FieldValue: Sized {
+/// What may stand in a field of ten columns: it is read from the field's text, and written as one. A number (`u64`, 0 to
+/// 9,999,999,999), a signed number (`i64`, -999,999,999 to 9,999,999,999), a date ([`EightDigits`](super::EightDigits)),
+/// or nothing ([`Blank`](super::Blank)).
+pub trait FieldValue: Sized {
     // The kind of the field, and what of that kind a value is.
     ghost kind: { Kind };
 
     ghost value_of: { Self → Value kind };
 
-    // The value that a text is the writing of, if it is one.
+    /// The value that a text is the writing of, if it is one.
     fn from_text(text: FieldText) -> Option<Self>
         ensures { ReadsText kind value_of text result };
 
-    // The text that a value is written as, if it fits ten columns.
+    /// The text that a value is written as, if it fits ten columns.
     fn to_text(self) -> Option<FieldText>
         ensures { WritesText kind (value_of self) result };
 
     ghost ten_columns: { width kind ≡ 10 };
 
-    // The value in a field, from its ten columns. Refuses as malformed (1) where none stands there,
-    // columns of another number among them.
+    /// The value in a field, from its ten columns.
+    ///
+    /// Refused as `MalformedLine` (1) where none stands there, and where there are not ten columns.
     final fn read(columns: &[u8]) -> Result<Self, Refusal>
         ensures { ReadsField kind value_of columns.now result }
     {
@@ -42,7 +45,9 @@ pub(crate) trait FieldValue: Sized {
         Self::from_text(FieldText { text }).ok_or(Refusal::MalformedLine)
     }
 
-    // The ten columns of a value. Refuses as beyond limits (3) where it does not fit them.
+    /// The ten columns of a value.
+    ///
+    /// Refused as `BeyondLimits` (3) where it does not fit them.
     final fn write(self) -> Result<[u8; 10], Refusal>
         ensures { Answers result (fits kind (value_of self)) (columns kind (value_of self)) beyond_limits }
     {

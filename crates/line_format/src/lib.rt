@@ -25,10 +25,16 @@ mod record;
 mod signed_digits;
 mod tag;
 
+pub use blank::Blank;
+pub use eight_digits::EightDigits;
 pub use fault::{Fault, LAST_LINE_NUMBER, LineFault, on_line};
 pub use field::Field;
+pub use field_text::FieldText;
+pub use field_value::FieldValue;
+pub use letter::{letter_of, read_no_letter, type_of_letter};
 pub use limits::{LARGEST_BOOK, Limits, check_limits};
 pub use line::{check_line, read_back, read_line, write_again};
 pub use record::{
     DegreeDays, Enrolment, Factors, GateDay, IntervalEnergy, Opening, Reading, Record, write_record,
 };
+pub use tag::Tag;

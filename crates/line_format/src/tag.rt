@@ -4,19 +4,26 @@ ghost use Rattle.line_format.specs.Tag.{tag_bytes};
 
 use terms::Refusal;
 
-// The four capitals that a line begins with; they tell which record it is.
+/// The four capitals that a line begins with; they tell which record it is. From bytes by `TryFrom`, to bytes by `From`.
 #[derive(Clone, Copy, PartialEq, Eq, Debug)]
-pub(crate) enum Tag {
+pub enum Tag {
+    /// A book opens.
     Open,
+    /// The factors of a point.
     Fact,
+    /// A point gets its retailer.
     Enrl,
+    /// A gate day.
     Gate,
+    /// The energy of an interval meter.
     Intv,
+    /// Degree days.
     Degd,
+    /// A reading.
     Read,
 }
 
-// The tag that the bytes are. Refuses any others as malformed (1).
+/// The tag that the bytes are. Refused as `MalformedLine` (1) for any others.
 impl TryFrom<&[u8]> for Tag {
     type Error = Refusal;
 
@@ -36,7 +43,7 @@ impl TryFrom<&[u8]> for Tag {
     }
 }
 
-// The bytes of a tag.
+/// The bytes of a tag.
 impl From<Tag> for [u8; 4] {
     ghost from_gives = { λ t bytes. bytes ≡ tag_bytes t };
 
