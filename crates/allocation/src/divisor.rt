@@ -18,11 +18,13 @@ pub(crate) struct Divisor {
 }
 
 impl Divisor {
-    // The divisor `by` of so many numbers.
-    pub(crate) fn new(by: u64, numbers: usize) -> Divisor
+    // The divisor `by` of so many numbers, that grow evenly up to the largest. A reciprocal is made where it is exact for
+    // about half of them or more.
+    pub(crate) fn new(by: u64, numbers: usize, largest: u64) -> Divisor
         ensures { result.by ≡ by }
     {
-        let reciprocal = if numbers > FEW_NUMBERS && (2..=RECIPROCAL_LIMIT / 2).contains(&by) {
+        let pays = numbers > FEW_NUMBERS && largest / 2 < RECIPROCAL_LIMIT;
+        let reciprocal = if pays && (2..=RECIPROCAL_LIMIT / 2).contains(&by) {
             u64::MAX / by + 1
         } else {
             0

@@ -36,7 +36,7 @@ pub fn share<R: Row>(amount: u64, rows: &mut [R]) -> Result<(), Refusal>
     ensures keeps { SharesOut amount (map R.weight rows.old) (shares amount (map R.weight rows.old)) }
 {
     let total = total_to_share_over(amount, rows)?;
-    let divisor = Divisor::new(total, rows.len());
+    let divisor = Divisor::new(total, rows.len(), amount.saturating_mul(total));
     let mut progress = Progress {
         weight_sum: 0,
         share_sum: 0,

@@ -43,12 +43,12 @@ pub(crate) fn day_exists(year: u32, month: u32, day: u32) -> bool
         && (1..=month_length(year, month)).contains(&day)
 }
 
-// The days of a year before a month.
+// The days of a year before a month. Every fourth year is a leap year, as 2100 is not reached.
 pub(crate) fn days_before_month(year: u32, month: u32) -> u32
-    requires { (1 ≤ month) × (month ≤ 12) }
+    requires { (first_year ≤ year) × (year ≤ last_year) × (1 ≤ month) × (month ≤ 12) }
     ensures { result ≡ days_before_month year month }
 {
-    DAYS_BEFORE_MONTH[month as usize - 1] + u32::from(month > 2 && is_leap(year))
+    DAYS_BEFORE_MONTH[month as usize - 1] + u32::from(month > 2 && year % 4 == 0)
 }
 
 // The days from 1 January 2001 to a year's first. Every fourth year among them is a leap year, as 2100 is not reached.
@@ -62,7 +62,7 @@ pub(crate) fn days_before_year(year: u32) -> u32
 
 // The month of the day that has so many days of its year before it.
 pub(crate) fn month_at(year: u32, days: u32) -> u32
-    requires { days < year_length year }
+    requires { (first_year ≤ year) × (year ≤ last_year) × (days < year_length year) }
     ensures low { 1 ≤ result }
     ensures high { result ≤ 12 }
     ensures begins { days_before_month year result ≤ days }

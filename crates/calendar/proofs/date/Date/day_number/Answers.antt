@@ -7,7 +7,7 @@ pub days_before_year-requires : goal.days_before_year-requires
 days_before_year-requires c = let within = dated c.args.self in (omega arith, omega arith)
 
 pub days_before_month-requires : goal.days_before_month-requires
-days_before_month-requires c = let within = dated c.args.self in (omega arith, omega arith)
+days_before_month-requires c = let within = dated c.args.self in (omega arith, omega arith, omega arith, omega arith)
 
 pub overflow_add-result : goal.overflow_add-result
 overflow_add-result c = let within = dated c.args.self in let place = placed within in omega arith
