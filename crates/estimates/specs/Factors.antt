@@ -27,7 +27,7 @@ abbrev pub weather_figure : Factors → ℕ → ℕ
 weather_figure f count = (100 * f.base_load + f.sensitivity * count + 50000) / 100000
 
 -- the most that a day can call for, in hundredths of a kilojoule
-heat_bound : (f : Factors) (count : ℕ) → T (factors_within f) → T (count_within count)
+pub heat_bound : (f : Factors) (count : ℕ) → T (factors_within f) → T (count_within count)
     → 100 * f.base_load + f.sensitivity * count ≤ 30000000000
 heat_bound f count factors counted =
     let base_load : f.base_load ≤ greatest_base_load = grind (arith, nat_tests) in

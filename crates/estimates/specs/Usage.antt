@@ -45,7 +45,7 @@ pub record HasSmallProducts (u : Usage) (reading day : ℕ) : Type 0 where
   pub some_days : 1 ≤ u.days
   pub few_days : u.days ≤ most_days
 
-small_products : (u : Usage) (reading day : ℕ) → T (usage_within u) → reading ≤ 6 → day ≤ 4
+pub small_products : (u : Usage) (reading day : ℕ) → T (usage_within u) → reading ≤ 6 → day ≤ 4
     → HasSmallProducts u reading day
 small_products u reading day within reading_low day_low =
     let litres : u.litres ≤ most_litres = grind (arith, nat_tests) in
