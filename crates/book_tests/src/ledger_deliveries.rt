@@ -75,6 +75,10 @@ fn actual_over_several_estimates(rt: HostRuntime) -> Result<(), Fail> {
 #[test]
 fn misaligned_starts(rt: HostRuntime) -> Result<(), Fail> {
     let mut ledger = with_loads(rt.alloc(), 4)?;
+    assert_eq!(rt;
+        ledger.enter_reading(reading(1, 20240702, 20240704, 50, ReadingType::Actual)),
+        Err(Refusal::StartIsNoMark)
+    );
     ledger.enter_reading(reading(1, 20240701, 20240703, 50, ReadingType::Actual))?;
     for (point, start_date) in [(1, 20240702), (1, 20240704), (2, 20240702), (2, 20240703)] {
         for reading_type in [ReadingType::Actual, ReadingType::Estimated] {
