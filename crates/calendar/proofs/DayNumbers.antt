@@ -1,7 +1,6 @@
 -- Day numbers: where they lie, and the day that has one. Assumes nothing.
-use Rattle.std.proofs.Common.{◌≡◌, ℕ, ◌+◌, ◌-◌, ◌<◌, ◌≤◌, ltb, Ok, Err, Some, None, Option, inl, inr, unwrap_or, arith}
-use Rattle.std.specs.Option.{MatchOption}
-use Rattle.std.proofs.lemmas.Bool.{cases_lt, lt-ltb, le-ltb}
+use Rattle.std.proofs.Common.{◌≡◌, ℕ, ◌+◌, ◌<◌, ◌≤◌, ltb, Ok, Err, arith}
+use Rattle.std.proofs.lemmas.Bool.{lt-ltb, le-ltb}
 use Rattle.terms.specs.Answers.{AnswersBy}
 use Rattle.terms.specs.declared.refusal.Refusal.TheVariants.{NoSuchDate}
 use Rattle.terms.specs.RefusalNumbers.{no_such_date}
@@ -10,7 +9,7 @@ use Rattle.calendar.specs.Date.{date_day_number, date_day_of_year}
 use Rattle.calendar.specs.declared.date.Date.{Date}
 use Rattle.calendar.proofs.DateAnswers.{accepted, refused_as_no_such_date}
 use Rattle.calendar.proofs.Years.{year_length_by_four, days_before_year_is, days_before_next_year}
-use Rattle.calendar.proofs.Months.{days_before_next_month, days_before_january, days_before_all_months, days_before_month_grows}
+use Rattle.calendar.proofs.Months.{days_before_next_month, days_before_all_months, days_before_month_grows}
 use Rattle.calendar.proofs.Days.{InCalendar, dated}
 
 -- the days of a month end within the year
@@ -36,25 +35,6 @@ placed {y} {m} {d} h =
     let year = year_ends y h.year_low h.year_high in
     let length = year_length_by_four y h.year_low h.year_high in
     record { in_month = omega arith; in_year = omega arith; short = omega arith; number = omega arith }
-
--- the month ends after so many days of its year
-abbrev pub EndsAfter : ℕ → ℕ → ℕ → Type 0
-EndsAfter y days m = days < days_before_month y (m + 1)
-
--- it ends before, or with the last of them
-abbrev pub EndsBefore : ℕ → ℕ → ℕ → Type 0
-EndsBefore y days m = days_before_month y (m + 1) ≤ days
-
--- the first of eleven months that ends after a day, or else December, has begun when the day comes, and has not ended
-pub month_found : (y days : ℕ) (r : Option ℕ) → days < year_length y → MatchOption r ((k : ℕ) → 1 ≤ k → k < 12 → EndsBefore y days k) (λ m. (1 ≤ m) × (m < 12) × EndsAfter y days m × ((k : ℕ) → 1 ≤ k → k < m → EndsBefore y days k)) → (days_before_month y (unwrap_or r 12) ≤ days) × EndsAfter y days (unwrap_or r 12)
-month_found y days None h first = (first 11 (omega arith) (omega arith), omega (arith, days_before_all_months y))
-month_found y days (Some m) h first = (
-  elim (cases_lt 1 m) [
-    | inl later ↦ let back : m - 1 + 1 ≡ m = omega arith in rw back at (first.3 (m - 1) (omega arith) (omega arith))
-    | inr january ↦ let is : m ≡ 1 = omega arith in rw (is, days_before_january) (omega arith)
-  ],
-  first.2,
-)
 
 -- every date's number is below the number of all days
 pub number_below : (d : Date) → date_day_number d < days_in_all

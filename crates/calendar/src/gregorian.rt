@@ -68,7 +68,7 @@ pub(crate) fn month_at(year: u32, days: u32) -> u32
     ensures begins { days_before_month year result ≤ days }
     ensures ends_later { days < days_before_month year (result + 1) }
 {
-    // A month has 31 days at most, and all before December together lack seven of that: it is this month or the next.
+    // A month has 31 days at most, and those before December together lack seven of that at most: it is this month or the next.
     let month = days / 31 + 1;
     if month < 12 && days_before_month(year, month + 1) <= days {
         month + 1
