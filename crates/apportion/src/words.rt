@@ -20,10 +20,10 @@ pub(crate) fn number_up_to(word: &str, most: u64) -> Result<u64, WordFault>
         return Err(WordFault::NotANumber);
     }
     // Digits alone fail to parse only where they write more than a u64 holds.
-    word.parse::<u64>()
-        .ok()
-        .filter(|number| *number <= most)
-        .ok_or(WordFault::BeyondLimit)
+    match word.parse::<u64>() {
+        Ok(number) if number <= most => Ok(number),
+        _ => Err(WordFault::BeyondLimit),
+    }
 }
 
 // Whether a word is one decimal digit or more, and nothing else.
